@@ -1,0 +1,5 @@
+pub mod Choice
+pub mod Tests
+pub mod Search
+pub mod Store
+pub mod Agree
