@@ -1,6 +1,6 @@
 -- Ordered tests, each with its reason: the first that holds refuses, and where none holds the outcome stands.
 use mathlib.Core.Path.{_≡_, refl, sym, _∙_}
-use mathlib.Core.Bool.{Bool, true, false}
+use mathlib.Core.Bool.{Bool, true, false, not}
 use mathlib.Core.List.{List, [], _∷_}
 use Prim.Native.Nat.{ℕ}
 use lib.Dec.{eqb}
@@ -50,6 +50,9 @@ sieved P deny (t ∷ ts) j f g =
 pub said : (a b c : Bool) → a ≡ b → a ≡ c → b ≡ c
 said a b c p q = rw (← p) q
 
+pub said-not : (a b c : Bool) → a ≡ b → not a ≡ c → not b ≡ c
+said-not a b c p q = rw (← p) q
+
 -- an arm of a match says which number it is, and so which it is not
 pub other-key : (x k l : ℕ) → x ≡ l → eqb l k ≡ false → eqb x k ≡ false
 other-key x k l e f = rw e f
@@ -64,4 +67,4 @@ pub ruleset tests = (numbers, both-true, left-false, right-false, first-or, seco
 pub ruleset choices = (picked, passed, tests)
 
 -- one ruleset for every judgement
-pub ruleset judgements = (other-key, not-true, not-false, stops, goes, ends, picked, passed, said, numbers)
+pub ruleset judgements = (other-key, not-true, not-false, stops, goes, ends, picked, passed, said-not, said, numbers)
