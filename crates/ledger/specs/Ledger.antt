@@ -1,0 +1,178 @@
+-- What becomes of a ledger entry, and what the ledger then answers.
+use mathlib.Core.Path.{_≡_, refl, sym, ap, _∙_}
+use mathlib.Core.Bool.{Bool, true, false, _&&_}
+use mathlib.Core.List.{List, [], _∷_}
+use Prim.Native.Nat.{ℕ, _+_, _-_, _≤_, _<_}
+use native.Mathlib.Omega.{arith}
+use lib.Dec.{ltb, leb, eqb}
+use borrow.Author.Tests.{ltb-true, ltb-false, leb-true, eqb-true, le-leb, eq-eqb}
+use Rattle.rules.specs.Choice.{pick, pick-yes, pick-no, either, yes-or-no, both-true, left-true, right-true}
+use Rattle.rules.specs.Tests.{refuses, sieve}
+use Rattle.rules.specs.Search.{any, any-not, any-if-not}
+use Rattle.ledger.specs.declared.Lookup.{Lookup}
+use Rattle.ledger.specs.declared.Lookup.the-variants.{Handler, Nobody}
+use Rattle.ledger.specs.declared.Entry.{Entry}
+use Rattle.ledger.specs.declared.Entry.the-variants.{Accepted, OutOfRange, Taken}
+use Rattle.ledger.specs.Pairs.{assigned, record-is, recorded-in, recorded-out, recorded-proper, chosen}
+pub use Rattle.ledger.specs.Pairs.{Proper, empty, handler, recorded, empty-proper, empty-handler, pair-known}
+
+-- the pair has a handler
+abbrev pub has : Lookup → Bool
+has (Handler number) = true
+has Nobody = false
+
+unfoldable pub taken : List ℕ → ℕ → ℕ → Bool
+taken t kind owner = has (handler t kind owner)
+
+-- refused for a number outside its range, and then for a pair that has a handler already; a refused entry changes nothing
+unfoldable pub entered : List ℕ → ℕ → ℕ → ℕ → ℕ → Entry × List ℕ
+entered t first last kind number =
+    sieve (λ (why : Entry). (why, t))
+    (refuses (ltb last first) OutOfRange
+    ∷ refuses (ltb 63 last) OutOfRange
+    ∷ refuses (ltb 1 kind) OutOfRange
+    ∷ refuses (ltb 3 number) OutOfRange
+    ∷ refuses (any (taken t kind) first (last - first + 1)) Taken
+    ∷ [])
+    (Accepted, recorded t first last kind number)
+
+abbrev pub isAccepted : Entry → Bool
+isAccepted Accepted = true
+isAccepted OutOfRange = false
+isAccepted Taken = false
+
+-- the pair of type k and owner o is one of those that an entry names
+unfoldable pub names : ℕ → ℕ → ℕ → ℕ → ℕ → Bool
+names first last kind k o = eqb k kind && (leb first o && leb o last)
+
+-- ---- for this crate's code
+module _ (t : List ℕ) (kind owner : ℕ) (found : Lookup) (is : found ≡ handler t kind owner) where
+  pub is-taken : (number : ℕ) → found ≡ Handler number → true ≡ taken t kind owner
+  unfolding taken
+  is-taken number e = rw (← is, e)
+
+  pub is-free : found ≡ Nobody → false ≡ taken t kind owner
+  unfolding taken
+  is-free e = rw (← is, e)
+
+pub accepts : (t u : List ℕ) (first last kind number : ℕ) → u ≡ assigned t kind first (last - first + 1) number
+    → _≡_ {A = Entry × List ℕ} (Accepted, u) (Accepted, recorded t first last kind number)
+accepts t u first last kind number e = rw (record-is t u first last kind number e)
+
+-- ---- an entry by its three outcomes
+-- every number is in its range
+pub record Ranged (first last kind number : ℕ) : Type 0 where
+  pub order : first ≤ last
+  pub owners : last ≤ 63
+  pub kinds : kind ≤ 1
+  pub handlers : number ≤ 3
+
+-- none of the pairs has a handler
+abbrev pub Free : List ℕ → ℕ → ℕ → ℕ → Type 0
+Free t first last kind = (owner : ℕ) → first ≤ owner → owner ≤ last → handler t kind owner ≡ Nobody
+
+not-taken : (t : List ℕ) (kind owner : ℕ) → handler t kind owner ≡ Nobody → taken t kind owner ≡ false
+unfolding taken
+not-taken t kind owner e = rw e
+
+taken-not : (t : List ℕ) (kind owner : ℕ) → taken t kind owner ≡ false → handler t kind owner ≡ Nobody
+unfolding taken
+taken-not t kind owner e = nobody (handler t kind owner) e
+  where
+    nobody : (found : Lookup) → has found ≡ false → found ≡ Nobody
+    nobody Nobody e = refl
+    nobody (Handler number) e = absurd (yes-or-no true refl e)
+
+module _ (first last kind k o : ℕ) where
+  named : names first last kind k o ≡ true → (k ≡ kind) × (first ≤ o) × (o ≤ last)
+  unfolding names
+  named e =
+      let f = right-true (eqb k kind) _ e in
+      (eqb-true _ _ (left-true _ _ e), leb-true _ _ (left-true _ _ f), leb-true _ _ (right-true (leb first o) _ f))
+
+  naming : k ≡ kind → first ≤ o → o ≤ last → names first last kind k o ≡ true
+  unfolding names
+  naming e h l = both-true _ _ (eq-eqb _ _ e) (both-true _ _ (le-leb _ _ h) (le-leb _ _ l))
+
+is-accepted : (e : Entry) → isAccepted e ≡ true → e ≡ Accepted
+is-accepted Accepted h = refl
+is-accepted OutOfRange h = absurd (yes-or-no true refl (sym h))
+is-accepted Taken h = absurd (yes-or-no true refl (sym h))
+
+module _ (t : List ℕ) (first last kind number : ℕ) where
+  module _ (P : Entry × List ℕ → Type 0)
+      (outside : (Ranged first last kind number → ⊥) → P (OutOfRange, t))
+      (clash : Ranged first last kind number → (Free t first last kind → ⊥) → P (Taken, t))
+      (done : Ranged first last kind number → Free t first last kind → P (Accepted, recorded t first last kind number)) where
+    pub entered-by : P (entered t first last kind number)
+    unfolding entered sieve
+    entered-by =
+        chosen P (ltb last first) _ _ (λ e. outside (λ r. omega (arith, ltb-true last first e)))
+        (λ a. chosen P (ltb 63 last) _ _ (λ e. outside (λ r. omega (arith, ltb-true 63 last e)))
+        (λ b. chosen P (ltb 1 kind) _ _ (λ e. outside (λ r. omega (arith, ltb-true 1 kind e)))
+        (λ c. chosen P (ltb 3 number) _ _ (λ e. outside (λ r. omega (arith, ltb-true 3 number e)))
+        (λ d.
+        let r : Ranged first last kind number = record { order = ltb-false last first a; owners = ltb-false 63 last b; kinds = ltb-false 1 kind c; handlers = ltb-false 3 number d } in
+        chosen P (any (taken t kind) first (last - first + 1)) _ _
+        (λ e. clash r (λ f. yes-or-no _ e (any-if-not (taken t kind) first (last - first + 1) (λ o h l. not-taken t kind o (f o h (omega arith))))))
+        (λ e. done r (λ o h l. taken-not t kind o (any-not (taken t kind) first (last - first + 1) o e h (omega arith))))))))
+
+  -- which of the three it is
+  pub out-of-range : (Ranged first last kind number → ⊥) → entered t first last kind number ≡ (OutOfRange, t)
+  out-of-range n = entered-by (λ (o : Entry × List ℕ). o ≡ (OutOfRange, t)) (λ m. refl) (λ r f. absurd (n r)) (λ r f. absurd (n r))
+
+  pub already-taken : Ranged first last kind number → (Free t first last kind → ⊥) → entered t first last kind number ≡ (Taken, t)
+  already-taken r n = entered-by (λ (o : Entry × List ℕ). o ≡ (Taken, t)) (λ m. absurd (m r)) (λ s f. refl) (λ s f. absurd (n f))
+
+  pub accepted-where : Ranged first last kind number → Free t first last kind → entered t first last kind number ≡ (Accepted, recorded t first last kind number)
+  accepted-where r f =
+      entered-by (λ (o : Entry × List ℕ). o ≡ (Accepted, recorded t first last kind number)) (λ m. absurd (m r)) (λ s n. absurd (n f)) (λ s g. refl)
+
+  -- an accepted entry was in range, and its pairs were free
+  pub record Granted : Type 0 where
+    pub ranged : Ranged first last kind number
+    pub free : Free t first last kind
+
+  pub granted : entered t first last kind number .0 ≡ Accepted → Granted
+  granted =
+      entered-by (λ (o : Entry × List ℕ). o .0 ≡ Accepted → Granted) (λ m e. absurd (let z : _≡_ {A = ℕ} 0 1 = cc in omega arith))
+      (λ r n e. absurd (let z : _≡_ {A = ℕ} 0 1 = cc in omega arith)) (λ r f e. record { ranged = r; free = f })
+
+  -- a refused one leaves the ledger as it was
+  pub refused-same : (entered t first last kind number .0 ≡ Accepted → ⊥) → entered t first last kind number .1 ≡ t
+  refused-same = entered-by (λ (o : Entry × List ℕ). (o .0 ≡ Accepted → ⊥) → o .1 ≡ t) (λ m n. refl) (λ r f n. refl) (λ r f n. absurd (n refl))
+
+  -- an accepted one gives its handler to the pairs that it covers
+  pub covered : Proper t → entered t first last kind number .0 ≡ Accepted → (owner : ℕ) → first ≤ owner → owner ≤ last
+      → handler (entered t first last kind number .1) kind owner ≡ Handler number
+  covered w e =
+      let g = granted e in
+      rw (accepted-where (g .ranged) (g .free)) (recorded-in t first last kind number w (g .ranged .owners) (g .ranged .kinds) (g .ranged .handlers))
+
+  -- and every other pair keeps what it had
+  pub uncovered : (k o : ℕ) → (k ≡ kind → first ≤ o → o ≤ last → ⊥) → handler (entered t first last kind number .1) k o ≡ handler t k o
+  uncovered k o apart =
+      entered-by (λ (r : Entry × List ℕ). handler (r .1) k o ≡ handler t k o) (λ m. refl) (λ r f. refl)
+      (λ r f. recorded-out t first last kind number (r .order) k o apart)
+
+  -- both in one: the handler of any pair after any attempt at an entry
+  pub handler-after : Proper t → (k o : ℕ) → handler (entered t first last kind number .1) k o
+      ≡ pick (isAccepted (entered t first last kind number .0) && names first last kind k o) (Handler number) (handler t k o)
+  handler-after w k o =
+      either (isAccepted (entered t first last kind number .0) && names first last kind k o)
+      (λ y.
+      let p = named first last kind k o (right-true (isAccepted (entered t first last kind number .0)) _ y) in
+      rw (p .0) (covered w (is-accepted _ (left-true _ _ y)) o (p .1) (p .2)) ∙ sym (pick-yes _ _ _ y))
+      (λ n.
+      either (names first last kind k o)
+      (λ c. ap (λ (u : List ℕ). handler u k o) (refused-same (λ e. yes-or-no _ (both-true _ _ (ap isAccepted e) c) n)))
+      (λ c. uncovered k o (λ e h l. yes-or-no _ (naming first last kind k o e h l) c))
+      ∙ sym (pick-no _ _ _ n))
+
+  pub handler-before : (k o : ℕ) → (isAccepted (entered t first last kind number .0) && names first last kind k o) ≡ true → handler t k o ≡ Nobody
+  handler-before k o y =
+      let p = named first last kind k o (right-true (isAccepted (entered t first last kind number .0)) _ y) in
+      rw (p .0) (granted (is-accepted _ (left-true _ _ y)) .free o (p .1) (p .2))
+
+  pub entered-proper : Proper t → Proper (entered t first last kind number .1)
+  entered-proper w = entered-by (λ (o : Entry × List ℕ). Proper (o .1)) (λ m. w) (λ r f. w) (λ r f. recorded-proper t first last kind number w)

@@ -1,0 +1,4 @@
+pub mod Pairs
+pub mod Ledger
+pub mod Only
+pub mod OneHandler
