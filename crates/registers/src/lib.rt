@@ -1,0 +1,139 @@
+// The saved numbers: x0 to x7, then a start address, of each core and world, in one table that the caller lends.
+// Where there is no such core, world or number, reading gives 0 and writing changes nothing.
+ghost use mathlib.Core.Path.{_≡_};
+ghost use mathlib.Core.List.{[], _∷_};
+ghost use Rattle.registers.specs.Registers.{startOf, countOf, numberIn, shownIn, zeros, saved, shownOf, kept};
+
+// Eight cores, four worlds of each, nine numbers of each.
+pub type Saved = [u64; 288];
+
+// What an accepted call's frame shows of a world: its first four numbers.
+pub struct Shown {
+    pub x0: u64,
+    pub x1: u64,
+    pub x2: u64,
+    pub x3: u64,
+}
+
+// Where the nine numbers of one core and world begin.
+enum Start {
+    At(usize),
+    Nowhere,
+}
+
+// All numbers start at zero.
+pub fn fresh() -> Saved
+    ensures { λ r. ⌜ r ≡ zeros ⌝ }
+{
+    [0; 288]
+}
+
+fn start_of(core: u64, world: u64) -> Start
+    ensures { λ r. ⌜ r ≡ startOf core world ⌝ }
+{
+    if 8 <= core {
+        return Start::Nowhere;
+    }
+    if 4 <= world {
+        return Start::Nowhere;
+    }
+    Start::At((core as usize * 4 + world as usize) * 9)
+}
+
+// A reader of the numbers of one core and world: number i of the part, 0 past its end.
+fn number_in(part: &[u64], i: u64) -> u64
+    ensures { λ r. ⌜ r ≡ numberIn (now (part .entry)) i ⌝ }
+{
+    let at = i as usize;
+    if at < part.len() {
+        return part[at];
+    }
+    0
+}
+
+// A reader of the numbers of one core and world: x0 to x3 of the part.
+fn shown_in(part: &[u64]) -> Shown
+    ensures { λ r. ⌜ r ≡ shownIn (now (part .entry)) ⌝ }
+{
+    Shown {
+        x0: number_in(part, 0),
+        x1: number_in(part, 1),
+        x2: number_in(part, 2),
+        x3: number_in(part, 3),
+    }
+}
+
+// Number i of one core and world.
+pub fn number(t: &Saved, core: u64, world: u64, i: u64) -> u64
+    ensures { λ r. ⌜ r ≡ saved (now (t .entry)) core world i ⌝ }
+{
+    let Start::At(a) = start_of(core, world) else {
+        return 0;
+    };
+    let s: &[u64] = t;
+    let e = a + 9;
+    number_in(&s[a..e], i)
+}
+
+// x0 to x3 of one core and world.
+pub fn show(t: &Saved, core: u64, world: u64) -> Shown
+    ensures { λ r. ⌜ r ≡ shownOf (now (t .entry)) core world ⌝ }
+{
+    let Start::At(a) = start_of(core, world) else {
+        return Shown {
+            x0: 0,
+            x1: 0,
+            x2: 0,
+            x3: 0,
+        };
+    };
+    let s: &[u64] = t;
+    let e = a + 9;
+    shown_in(&s[a..e])
+}
+
+// How many of n numbers are written: nine at most.
+fn count_of(n: usize) -> usize
+    ensures { λ r. ⌜ r ≡ countOf n ⌝ }
+{
+    if n < 9 {
+        return n;
+    }
+    9
+}
+
+// The numbers xs take the place of as many from x0 on; those past the ninth are ignored.
+pub fn keep(t: &mut Saved, core: u64, world: u64, xs: &[u64])
+    ensures { λ _. ⌜ now (t .exit) ≡ kept (now (t .entry)) core world (now (xs .entry)) ⌝ }
+{
+    let Start::At(a) = start_of(core, world) else {
+        return;
+    };
+    let n = count_of(xs.len());
+    let mut i = 0;
+    while i < n {
+        t[a + i] = xs[i];
+        i += 1;
+    }
+}
+
+// x0 alone: the answer of a call with one result.
+pub fn keep_one(t: &mut Saved, core: u64, world: u64, v: u64)
+    ensures { λ _. ⌜ now (t .exit) ≡ kept (now (t .entry)) core world (v ∷ []) ⌝ }
+{
+    keep(t, core, world, &[v]);
+}
+
+// x0 to x2: the answer of a call with three results.
+pub fn keep_three(t: &mut Saved, core: u64, world: u64, a: u64, b: u64, c: u64)
+    ensures { λ _. ⌜ now (t .exit) ≡ kept (now (t .entry)) core world (a ∷ b ∷ c ∷ []) ⌝ }
+{
+    keep(t, core, world, &[a, b, c]);
+}
+
+// All nine, as a core finds them that arrives: x0 the context, x1 to x7 zero, and the start address.
+pub fn keep_start(t: &mut Saved, core: u64, world: u64, context: u64, address: u64)
+    ensures { λ _. ⌜ now (t .exit) ≡ kept (now (t .entry)) core world (context ∷ 0 ∷ 0 ∷ 0 ∷ 0 ∷ 0 ∷ 0 ∷ 0 ∷ address ∷ []) ⌝ }
+{
+    keep(t, core, world, &[context, 0, 0, 0, 0, 0, 0, 0, address]);
+}
