@@ -1,0 +1,123 @@
+-- One core's power, and its turn: which world runs there, and whether a hand-over is open. Records by value, with no trace of the tables.
+use mathlib.Core.Path.{_≡_, refl}
+use mathlib.Core.Bool.{Bool, true, false, _||_}
+use Prim.Native.Nat.{ℕ}
+use lib.Dec.{eqb}
+use borrow.Author.Tests.{eqb-true}
+use Rattle.rules.specs.Choice.{pick, pick-yes, pick-no, first-or, second-or, neither}
+use Rattle.cores.specs.declared.Power.{Power}
+use Rattle.cores.specs.declared.Turn.{Turn}
+use Rattle.cores.specs.declared.Arriving.{Arriving}
+
+-- the states of a core
+abbrev pub off : ℕ
+off = 0
+
+abbrev pub pending : ℕ
+pending = 1
+
+abbrev pub on : ℕ
+on = 2
+
+-- the world in which a core starts, arrives and resumes
+abbrev pub normal : ℕ
+normal = 2
+
+abbrev pub powerOf : ℕ → ℕ → ℕ → Power
+powerOf state start context = record { state = state; start = start; context = context }
+
+abbrev pub turnOf : ℕ → Bool → Turn
+turnOf world isOpen = record { world = world; is_open = isOpen }
+
+-- ---- power
+unfoldable pub isOn : Power → Bool
+isOn p = eqb (p .state) on
+
+unfoldable pub isPending : Power → Bool
+isPending p = eqb (p .state) pending
+
+-- the same start address and context, in another state
+abbrev pub put : Power → ℕ → Power
+put p state = powerOf state (p .start) (p .context)
+
+-- a core that is neither ON nor pending becomes pending, with the call's start address and context
+unfoldable pub started : Power → ℕ → ℕ → Power
+started p start context = pick (isOn p || isPending p) p (powerOf pending start context)
+
+-- a core that is ON goes OFF
+unfoldable pub stopped : Power → Power
+stopped p = pick (isOn p) (put p off) p
+
+-- a pending core comes ON
+unfoldable pub arrived : Power → Power
+arrived p = pick (isPending p) (put p on) p
+
+-- whether a core that arrives was pending, and its power then
+abbrev pub arrivalOf : Power → Arriving
+arrivalOf p = record { came = isPending p; power = arrived p }
+
+-- ---- turn
+-- a hand-over: the receiver runs, until the finish
+abbrev pub handed : Turn → ℕ → Turn
+handed r to = turnOf to true
+
+-- a finish: Normal runs
+abbrev pub finished : Turn → Turn
+finished r = turnOf normal false
+
+-- an arrival: Normal runs, as after a finish
+abbrev pub entered : Turn → Turn
+entered r = finished r
+
+-- ---- the steps by their outcomes
+module _ (p : Power) where
+  -- no core is both ON and pending
+  pub on-not-pending : isOn p ≡ true → isPending p ≡ false
+  unfolding isOn isPending
+  on-not-pending e = rw (eqb-true (p .state) on e)
+
+  pub pending-not-on : isPending p ≡ true → isOn p ≡ false
+  unfolding isOn isPending
+  pending-not-on e = rw (eqb-true (p .state) pending e)
+
+  pub started-off : (start context : ℕ) → isOn p ≡ false → isPending p ≡ false → started p start context ≡ powerOf pending start context
+  unfolding started
+  started-off start context a b = pick-no _ _ _ (neither _ _ a b)
+
+  pub started-on : (start context : ℕ) → isOn p ≡ true → started p start context ≡ p
+  unfolding started
+  started-on start context e = pick-yes _ _ _ (first-or _ _ e)
+
+  pub started-pending : (start context : ℕ) → isPending p ≡ true → started p start context ≡ p
+  unfolding started
+  started-pending start context e = pick-yes _ _ (powerOf pending start context) (second-or (isOn p) (isPending p) e)
+
+  pub stopped-on : isOn p ≡ true → stopped p ≡ put p off
+  unfolding stopped
+  stopped-on e = pick-yes _ _ _ e
+
+  pub stopped-else : isOn p ≡ false → stopped p ≡ p
+  unfolding stopped
+  stopped-else e = pick-no _ _ _ e
+
+  pub arrived-pending : isPending p ≡ true → arrived p ≡ put p on
+  unfolding arrived
+  arrived-pending e = pick-yes _ _ _ e
+
+  pub arrived-else : isPending p ≡ false → arrived p ≡ p
+  unfolding arrived
+  arrived-else e = pick-no _ _ _ e
+
+-- ---- what a record in a known state is
+module _ (start context : ℕ) where
+  pub off-is : (isOn (powerOf off start context) ≡ false) × (isPending (powerOf off start context) ≡ false)
+  unfolding isOn isPending
+  off-is = (refl, refl)
+
+  pub pending-is : (isOn (powerOf pending start context) ≡ false) × (isPending (powerOf pending start context) ≡ true)
+  unfolding isOn isPending
+  pending-is = (refl, refl)
+
+  pub on-is : (isOn (powerOf on start context) ≡ true) × (isPending (powerOf on start context) ≡ false)
+  unfolding isOn isPending
+  on-is = (refl, refl)
