@@ -1,0 +1,80 @@
+-- `answers` meets its promise, since a free place answers only whether it is free, and each arm asks what the question asks.
+use Rattle.mapping.specs.Mapping.{holds}
+use Rattle.mapping.specs.Question.{asks, answers-free, answers-held}
+use borrow.Author.Needs.{needs}
+use Rattle.mapping.proofs.Mapping.answers.Statement.{statement}
+use Rattle.mapping.proofs.Mapping.answers.Tie as tie
+
+asks-free-requires : tie.Need-asks-free-requires
+asks-free-requires c κs = search needs
+
+returns : tie.Need-returns
+returns c = answers-free _ _ _ (search needs) (search needs)
+
+enum-told : tie.Need-enum-told
+enum-told c = search needs
+
+enum-known-q : tie.Need-enum-known-q
+enum-known-q c = search needs
+
+is-exact-requires : tie.Need-is-exact-requires
+is-exact-requires c κs = search needs
+
+enum-known-q-2 : tie.Need-enum-known-q-2
+enum-known-q-2 c = search needs
+
+is-on-run-requires : tie.Need-is-on-run-requires
+is-on-run-requires c κs = search needs
+
+enum-known-q-3 : tie.Need-enum-known-q-3
+enum-known-q-3 c = search needs
+
+is-within-requires : tie.Need-is-within-requires
+is-within-requires c κs = search needs
+
+enum-known-q-4 : tie.Need-enum-known-q-4
+enum-known-q-4 c = search needs
+
+does-clash-requires : tie.Need-does-clash-requires
+does-clash-requires c κs = search needs
+
+returns-2 : tie.Need-returns-2
+unfolding asks holds
+returns-2 c = answers-held _ _ _ (search needs) (cc)
+
+returns-3 : tie.Need-returns-3
+unfolding asks holds
+returns-3 c = answers-held _ _ _ (search needs) (cc)
+
+returns-4 : tie.Need-returns-4
+unfolding asks holds
+returns-4 c = answers-held _ _ _ (search needs) (cc)
+
+returns-5 : tie.Need-returns-5
+unfolding asks holds
+returns-5 c = answers-held _ _ _ (search needs) (cc)
+
+returns-6 : tie.Need-returns-6
+unfolding asks holds
+returns-6 c = answers-held _ _ _ (search needs) (cc)
+
+pub answers-spec : {M : Type 1} → statement M
+answers-spec =
+    tie.close
+    (tie.spec
+    asks-free-requires
+    returns
+    enum-told
+    enum-known-q
+    is-exact-requires
+    enum-known-q-2
+    is-on-run-requires
+    enum-known-q-3
+    is-within-requires
+    enum-known-q-4
+    does-clash-requires
+    returns-2
+    returns-3
+    returns-4
+    returns-5
+    returns-6)

@@ -1,0 +1,154 @@
+-- Mappings, and lists of them: which meet, which decides an address, where the address leads, and how a new one is judged.
+use mathlib.Core.Path.{_≡_}
+use mathlib.Core.Bool.{Bool, true, false, not, _&&_, _||_}
+use mathlib.Core.List.{List, [], _∷_}
+use mathlib.Core.Option.{Option, none, some}
+use Prim.Native.Nat.{ℕ, _+_, _-_, _*_, _/_, _%_, _^_}
+use lib.Dec.{ltb, leb, eqb}
+use lib.ListN.{length}
+use Rattle.rules.specs.Choice.{pick}
+use Rattle.rules.specs.Tests.{Test, refuses, sieve}
+use Rattle.rules.specs.declared.Reason.{Reason}
+use Rattle.rules.specs.declared.Reason.the-variants.{Malformed, Beyond, Full, Overlap, NotOwned}
+use Rattle.pages.specs.Sizes.{pageSize}
+use Rattle.pages.specs.Window.{runOf}
+use Rattle.pages.specs.Owners.{owned}
+use Rattle.pages.specs.declared.Window.{Window}
+use Rattle.pages.specs.declared.Place.{Place}
+use Rattle.pages.specs.declared.Place.the-variants.{Page, Outside}
+use Rattle.mapping.specs.Sizes.{places, virtualLimit, lastAttributes}
+use Rattle.mapping.specs.Ranges.{within, meet}
+use Rattle.mapping.specs.declared.Mapping.{Mapping}
+use Rattle.mapping.specs.declared.Lead.{Lead}
+use Rattle.mapping.specs.declared.Lead.the-variants.{To, Nowhere}
+use Rattle.mapping.specs.declared.Verdict.{Verdict}
+use Rattle.mapping.specs.declared.Verdict.the-variants.{Granted, Nothing, No}
+
+-- ---- what is asked of a mapping
+
+-- it has exactly this start and size
+unfoldable pub exact : ℕ → ℕ → Mapping → Bool
+exact v s m = eqb (m .virt) v && eqb (m .size) s
+
+-- its physical range meets the run of pages
+unfoldable pub onPages : ℕ → ℕ → Mapping → Bool
+onPages start count m = meet start (count * pageSize) (m .phys) (m .size)
+
+-- the virtual address lies in it
+unfoldable pub holds : ℕ → Mapping → Bool
+holds x m = within x (m .virt) (m .size)
+
+-- the two meet, in virtual or in physical addresses
+unfoldable pub clashes : Mapping → Mapping → Bool
+clashes n m = meet (n .virt) (n .size) (m .virt) (m .size) || meet (n .phys) (n .size) (m .phys) (m .size)
+
+-- ---- what is asked of a list
+
+-- one of them passes
+unfoldable pub anyOf : (Mapping → Bool) → List Mapping → Bool
+anyOf p [] = false
+anyOf p (m ∷ l) = p m || anyOf p l
+
+-- the first that passes
+unfoldable pub firstOf : (Mapping → Bool) → List Mapping → Option Mapping
+firstOf p [] = none
+firstOf p (m ∷ l) = pick (p m) (some m) (firstOf p l)
+
+-- a mapping of the list meets the new one
+unfoldable pub clash : List Mapping → Mapping → Bool
+clash l n = anyOf (clashes n) l
+
+-- a mapping of the list has exactly this start and size
+unfoldable pub hasExactly : List Mapping → ℕ → ℕ → Bool
+hasExactly l v s = anyOf (exact v s) l
+
+-- a mapping of the list meets the run of pages
+unfoldable pub meetsRun : List Mapping → ℕ → ℕ → Bool
+meetsRun l start count = anyOf (onPages start count) l
+
+-- the mapping that decides an address
+unfoldable pub deciding : List Mapping → ℕ → Option Mapping
+deciding l x = firstOf (holds x) l
+
+-- the list with the first mapping of exactly this start and size taken out
+unfoldable pub without : List Mapping → ℕ → ℕ → List Mapping
+without [] v s = []
+without (m ∷ l) v s = pick (exact v s m) l (m ∷ without l v s)
+
+-- where an address leads by the mapping that decides it
+unfoldable pub leading : ℕ → Option Mapping → Lead
+leading x none = Nowhere
+leading x (some m) = To ((m .phys + (x - m .virt)) % 2 ^ 64) (m .attr)
+
+unfoldable pub leadOf : List Mapping → ℕ → Lead
+leadOf l x = leading x (deciding l x)
+
+-- ---- how a new mapping is judged
+
+-- not a multiple of 4096
+abbrev pub unaligned : ℕ → Bool
+unaligned x = not (eqb (x % pageSize) 0)
+
+-- one of the three is unaligned, or the attributes are not 0, 1 or 2
+unfoldable pub malformed : Mapping → Bool
+malformed m = unaligned (m .virt) || (unaligned (m .phys) || (unaligned (m .size) || ltb lastAttributes (m .attr)))
+
+-- where its physical pages lie
+abbrev pub pagesOf : Window → Mapping → Place
+pagesOf w m = runOf w (m .phys) (m .size / pageSize)
+
+unfoldable pub isOutside : Place → Bool
+isOutside (Page first) = false
+isOutside Outside = true
+
+-- its physical part is not in the window, or its virtual end is above 2^32
+unfoldable pub beyond : Window → Mapping → Bool
+beyond w m = isOutside (pagesOf w m) || ltb virtualLimit (m .virt + m .size)
+
+-- sixteen are held
+unfoldable pub isFull : List Mapping → Bool
+isFull l = leb places (length l)
+
+-- the world owns each of the pages
+unfoldable pub ownsRun : List ℕ → ℕ → ℕ → Place → Bool
+ownsRun o world count (Page first) = owned o first count world
+ownsRun o world count Outside = false
+
+unfoldable pub ownsPages : List ℕ → Window → ℕ → Mapping → Bool
+ownsPages o w world m = ownsRun o world (m .size / pageSize) (pagesOf w m)
+
+abbrev pub mapTests : List Mapping → List ℕ → Window → ℕ → Mapping → List (Test Reason)
+mapTests l o w world m =
+    refuses (malformed m) Malformed
+    ∷ refuses (beyond w m) Beyond
+    ∷ refuses (isFull l) Full
+    ∷ refuses (clash l m) Overlap
+    ∷ refuses (not (ownsPages o w world m)) NotOwned
+    ∷ []
+
+-- a mapping of size 0 is nothing, and done
+unfoldable pub mapVerdict : List Mapping → List ℕ → Window → ℕ → Mapping → Verdict
+mapVerdict l o w world m = pick (eqb (m .size) 0) Nothing (sieve No (mapTests l o w world m) Granted)
+
+-- ---- how the code's tests meet these
+
+-- the place of the mapping's pages
+module _ (k : Place) (w : Window) (m : Mapping) (said : k ≡ pagesOf w m) where
+  pub beyond-window : k ≡ Outside → true ≡ beyond w m
+  unfolding beyond isOutside
+  beyond-window e = rw (← said, e)
+
+  pub owns-none : (o : List ℕ) (world : ℕ) → k ≡ Outside → false ≡ ownsPages o w world m
+  unfolding ownsPages ownsRun
+  owns-none o world e = rw (← said, e)
+
+  module _ (first : ℕ) (r : Bool) (e : k ≡ Page first) where
+    pub beyond-end : r ≡ ltb virtualLimit (m .virt + m .size) → r ≡ beyond w m
+    unfolding beyond isOutside
+    beyond-end h = rw (← said, e) h
+
+    pub owns-all : (o : List ℕ) (world : ℕ) → r ≡ owned o first (m .size / pageSize) world → r ≡ ownsPages o w world m
+    unfolding ownsPages ownsRun
+    owns-all o world h = rw (← said, e) h
+
+pub ruleset page-tests = (beyond-window, beyond-end, owns-none, owns-all)
