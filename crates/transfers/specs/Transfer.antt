@@ -1,0 +1,68 @@
+-- One operation moves a run of pages from one world to another: its tests in the paper's order, and its one effect.
+use mathlib.Core.Path.{_≡_, refl, sym, ap, _∙_}
+use mathlib.Core.Bool.{Bool, true, false, not}
+use mathlib.Core.List.{List, [], _∷_}
+use Prim.Native.Nat.{ℕ}
+use lib.Dec.{eqb}
+use Rattle.rules.specs.Tests.{Test, refuses, sieve, contraries}
+use Rattle.rules.specs.declared.Reason.{Reason}
+use Rattle.rules.specs.declared.Reason.the-variants.{Invalid, WrongOwner, NoPages, Mapped}
+use Rattle.pages.specs.Window.{runOf}
+use Rattle.pages.specs.Owners.{owned, given}
+use Rattle.pages.specs.declared.Window.{Window}
+use Rattle.pages.specs.declared.Place.{Place}
+use Rattle.pages.specs.declared.Place.the-variants.{Page, Outside}
+use Rattle.mapping.specs.Mapping.{meetsRun}
+use Rattle.mapping.specs.declared.Mapping.{Mapping}
+use Rattle.transfers.specs.declared.Verdict.{Verdict}
+use Rattle.transfers.specs.declared.Verdict.the-variants.{Granted, No}
+
+-- where the run lies, all of its pages are the giver's, and none of them is in the giver's list
+unfoldable pub moveTests : Place → List ℕ → List Mapping → ℕ → ℕ → ℕ → Verdict
+moveTests Outside o list from start count = No Invalid
+moveTests (Page first) o list from start count =
+    sieve No
+    (refuses (not (owned o first count from)) WrongOwner
+    ∷ refuses (meetsRun list start count) Mapped
+    ∷ [])
+    Granted
+
+-- unaligned or a page outside; any page of another owner; any page mapped by its owner
+unfoldable pub moveVerdict : Window → List ℕ → List Mapping → ℕ → ℕ → ℕ → Verdict
+moveVerdict w o list from start count = moveTests (runOf w start count) o list from start count
+
+-- the calls that name a count test it first
+unfoldable pub severalVerdict : Window → List ℕ → List Mapping → ℕ → ℕ → ℕ → Verdict
+severalVerdict w o list from start count =
+    sieve No (refuses (eqb count 0) NoPages ∷ []) (moveVerdict w o list from start count)
+
+-- the whole run is given, or nothing where it does not lie in the window
+unfoldable pub carriedTo : Place → List ℕ → ℕ → ℕ → List ℕ
+carriedTo Outside o count to = o
+carriedTo (Page first) o count to = given o first count to
+
+unfoldable pub carried : Window → List ℕ → ℕ → ℕ → ℕ → List ℕ
+carried w o start count to = carriedTo (runOf w start count) o count to
+
+-- ---- how the code's branches meet these
+module _ (k l : Place) (o : List ℕ) (list : List Mapping) (from start count : ℕ) (r : Verdict) (same : k ≡ l) where
+  pub not-there : k ≡ Outside → r ≡ No Invalid → r ≡ moveTests l o list from start count
+  unfolding moveTests
+  not-there e h = rw (← same, e) h
+
+  pub there : (first : ℕ) → k ≡ Page first → r ≡ sieve No (refuses (not (owned o first count from)) WrongOwner ∷ refuses (meetsRun list start count) Mapped ∷ []) Granted → r ≡ moveTests l o list from start count
+  unfolding moveTests
+  there first e h = rw (← same, e) h
+
+pub ruleset moves = (not-there, there, contraries)
+
+module _ (k l : Place) (o o′ : List ℕ) (count to : ℕ) (same : k ≡ l) where
+  pub stays : k ≡ Outside → o′ ≡ o → o′ ≡ carriedTo l o count to
+  unfolding carriedTo
+  stays e h = rw (← same, e) h
+
+  pub goes-to : (first : ℕ) → k ≡ Page first → o′ ≡ given o first count to → o′ ≡ carriedTo l o count to
+  unfolding carriedTo
+  goes-to first e h = rw (← same, e) h
+
+pub ruleset carries = (stays, goes-to)

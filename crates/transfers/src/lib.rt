@@ -1,0 +1,64 @@
+// A run of pages changes its owner, or nothing does.
+ghost use mathlib.Core.Path.{_≡_};
+ghost use Rattle.mapping.specs.Lists.{held};
+ghost use Rattle.transfers.specs.Transfer.{moveVerdict, severalVerdict, carried};
+use mapping::Lists;
+use pages::Owners;
+use pages::Place;
+use pages::Window;
+use rules::Reason;
+
+pub enum Verdict {
+    Granted,
+    No(Reason),
+}
+
+// Whether `count` pages from the address `start` on may leave the world that is to give them.
+pub fn judge(
+    w: Window,
+    owners: &Owners,
+    lists: &Lists,
+    from: u64,
+    start: u64,
+    count: u64,
+) -> Verdict
+    ensures { λ r. ⌜ r ≡ moveVerdict w (now (owners .entry)) (held (now (lists .entry)) from) from start count ⌝ }
+{
+    let Place::Page(first) = w.run_of(start, count) else {
+        return Verdict::No(Reason::Invalid);
+    };
+    if !pages::all_owned(owners, first, count, from) {
+        return Verdict::No(Reason::WrongOwner);
+    }
+    if mapping::meets_run(lists, from, start, count) {
+        return Verdict::No(Reason::Mapped);
+    }
+    Verdict::Granted
+}
+
+// The same for the calls that name a count, which may be none.
+pub fn judge_several(
+    w: Window,
+    owners: &Owners,
+    lists: &Lists,
+    from: u64,
+    start: u64,
+    count: u64,
+) -> Verdict
+    ensures { λ r. ⌜ r ≡ severalVerdict w (now (owners .entry)) (held (now (lists .entry)) from) from start count ⌝ }
+{
+    if count == 0 {
+        return Verdict::No(Reason::NoPages);
+    }
+    judge(w, owners, lists, from, start, count)
+}
+
+// The run goes to a world; where it is not in the window, nothing does.
+pub fn carry(w: Window, owners: &mut Owners, start: u64, count: u64, to: u64)
+    ensures { λ _. ⌜ now (owners .exit) ≡ carried w (now (owners .entry)) start count to ⌝ }
+{
+    let Place::Page(first) = w.run_of(start, count) else {
+        return;
+    };
+    pages::give(owners, first, count, to);
+}
