@@ -1,0 +1,22 @@
+-- Each return of `known_features` stands where a test of `featuring` led to it, in the same order.
+use borrow.Author.Needs.{needs}
+use Rattle.judging.specs.Judge.{featuring}
+use Rattle.judging.proofs.architecture.known_features.Statement.{statement}
+use Rattle.judging.proofs.architecture.known_features.Tie as tie
+
+asked-key-requires : tie.Need-asked-key-requires
+asked-key-requires c κs = search needs
+
+is-known-requires : tie.Need-is-known-requires
+is-known-requires c κs = search needs
+
+affirm-requires : tie.Need-affirm-requires
+affirm-requires c κs = search needs
+
+returns : tie.Need-returns
+unfolding featuring
+returns c = cc
+
+pub known-features-spec : {M : Type 1} → statement M
+known-features-spec =
+    tie.close (tie.spec asked-key-requires is-known-requires affirm-requires returns)

@@ -1,0 +1,38 @@
+-- The parts, the arguments and the key are those of the eight numbers, and the rest is `judge_parts`' promise.
+use borrow.Author.Needs.{needs}
+use Rattle.judging.specs.Laws.{judged-is}
+use Rattle.judging.proofs.judge.Statement.{statement}
+use Rattle.judging.proofs.judge.Tie as tie
+
+element-copy-out-of : tie.Need-element-copy-out-of
+element-copy-out-of c = search needs
+
+of-requires : tie.Need-of-requires
+of-requires c κs = search needs
+
+split-requires : tie.Need-split-requires
+split-requires c κs = search needs
+
+read-args-requires : tie.Need-read-args-requires
+read-args-requires c κs = search needs
+
+matched-requires : tie.Need-matched-requires
+matched-requires c κs = search needs
+
+judge-parts-requires : tie.Need-judge-parts-requires
+judge-parts-requires c κs = search needs
+
+returns : tie.Need-returns
+returns c = search judged-is
+
+pub judge-spec : {M : Type 1} → statement M
+judge-spec =
+    tie.close
+    (tie.spec
+    element-copy-out-of
+    of-requires
+    split-requires
+    read-args-requires
+    matched-requires
+    judge-parts-requires
+    returns)

@@ -1,0 +1,16 @@
+-- What `on_core` returns is what its callees promise, put together.
+use borrow.Author.Needs.{needs}
+use Rattle.judging.proofs.power.on_core.Statement.{statement}
+use Rattle.judging.proofs.power.on_core.Tie as tie
+
+power-of-requires : tie.Need-power-of-requires
+power-of-requires c κs = search needs
+
+is-on-requires : tie.Need-is-on-requires
+is-on-requires c κs = search needs
+
+returns : tie.Need-returns
+returns c = cc
+
+pub on-core-spec : {M : Type 1} → statement M
+on-core-spec = tie.close (tie.spec power-of-requires is-on-requires returns)

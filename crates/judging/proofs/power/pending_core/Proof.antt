@@ -1,0 +1,16 @@
+-- What `pending_core` returns is what its callees promise, put together.
+use borrow.Author.Needs.{needs}
+use Rattle.judging.proofs.power.pending_core.Statement.{statement}
+use Rattle.judging.proofs.power.pending_core.Tie as tie
+
+power-of-requires : tie.Need-power-of-requires
+power-of-requires c κs = search needs
+
+is-pending-requires : tie.Need-is-pending-requires
+is-pending-requires c κs = search needs
+
+returns : tie.Need-returns
+returns c = cc
+
+pub pending-core-spec : {M : Type 1} → statement M
+pending-core-spec = tie.close (tie.spec power-of-requires is-pending-requires returns)

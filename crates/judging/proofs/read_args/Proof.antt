@@ -1,0 +1,47 @@
+-- Each return of `read_args` stands where a test of `argsOf` led to it, in the same order.
+use borrow.Author.Needs.{needs}
+use Rattle.judging.specs.Judge.{argsOf}
+use Rattle.judging.proofs.read_args.Statement.{statement}
+use Rattle.judging.proofs.read_args.Tie as tie
+
+element-copy-out-argument : tie.Need-element-copy-out-argument
+element-copy-out-argument c = search needs
+
+argument-requires : tie.Need-argument-requires
+argument-requires c κs = search needs
+
+element-copy-out-argument-2 : tie.Need-element-copy-out-argument-2
+element-copy-out-argument-2 c = search needs
+
+argument-requires-2 : tie.Need-argument-requires-2
+argument-requires-2 c κs = search needs
+
+element-copy-out-argument-3 : tie.Need-element-copy-out-argument-3
+element-copy-out-argument-3 c = search needs
+
+argument-requires-3 : tie.Need-argument-requires-3
+argument-requires-3 c κs = search needs
+
+element-copy-out-argument-4 : tie.Need-element-copy-out-argument-4
+element-copy-out-argument-4 c = search needs
+
+argument-requires-4 : tie.Need-argument-requires-4
+argument-requires-4 c κs = search needs
+
+returns : tie.Need-returns
+unfolding argsOf
+returns c = cc
+
+pub read-args-spec : {M : Type 1} → statement M
+read-args-spec =
+    tie.close
+    (tie.spec
+    element-copy-out-argument
+    argument-requires
+    element-copy-out-argument-2
+    argument-requires-2
+    element-copy-out-argument-3
+    argument-requires-3
+    element-copy-out-argument-4
+    argument-requires-4
+    returns)

@@ -1,0 +1,29 @@
+-- Each return of `moved` stands where a test of `moving` led to it, in the same order.
+use borrow.Author.Needs.{needs}
+use Rattle.judging.specs.Judge.{moving}
+use Rattle.judging.proofs.transfer.moved.Statement.{statement}
+use Rattle.judging.proofs.transfer.moved.Tie as tie
+
+enum-told : tie.Need-enum-told
+enum-told c = search needs
+
+grant-requires : tie.Need-grant-requires
+grant-requires c κs = search needs
+
+enum-known-t : tie.Need-enum-known-t
+enum-known-t c = search needs
+
+refuse-requires : tie.Need-refuse-requires
+refuse-requires c κs = search needs
+
+returns : tie.Need-returns
+unfolding moving
+returns c = cc
+
+returns-2 : tie.Need-returns-2
+unfolding moving
+returns-2 c = cc
+
+pub moved-spec : {M : Type 1} → statement M
+moved-spec =
+    tie.close (tie.spec enum-told grant-requires enum-known-t refuse-requires returns returns-2)

@@ -1,0 +1,57 @@
+// Handler 0: the version, and which of these calls there are.
+ghost use mathlib.Core.Path.{_≡_};
+ghost use Rattle.judging.specs.Judge.{affirmed, oneOf, architectureCalls, asked, featuring, architecture};
+use super::Answer;
+use super::Args;
+use super::Deed;
+use super::Judged;
+use super::grant;
+use super::names::FEATURES;
+use super::names::VERSION;
+use super::refuse;
+use identifiers::Identifier;
+use rules::Reason;
+
+// A question whether a call is known.
+pub fn affirm(is: bool) -> Judged
+    ensures { λ r. ⌜ r ≡ affirmed is ⌝ }
+{
+    if is {
+        return grant(Answer::Done, Deed::Nothing);
+    }
+    refuse(Reason::Unserved)
+}
+
+// The key of the identifier that a call asks about.
+pub fn asked_key(a: Args) -> u32
+    ensures { λ r. ⌜ r ≡ asked a ⌝ }
+{
+    Identifier::of(a.x1).matched()
+}
+
+fn is_known(key: u32) -> bool
+    ensures { λ r. ⌜ r ≡ oneOf key architectureCalls ⌝ }
+{
+    match key {
+        VERSION => true,
+        FEATURES => true,
+        _ => false,
+    }
+}
+
+// Whether a call of the architecture is known.
+fn known_features(a: Args) -> Judged
+    ensures { λ r. ⌜ r ≡ featuring a ⌝ }
+{
+    affirm(is_known(asked_key(a)))
+}
+
+pub fn architecture_call(a: Args, key: u32) -> Judged
+    ensures { λ r. ⌜ r ≡ architecture a key ⌝ }
+{
+    match key {
+        VERSION => grant(Answer::Version, Deed::Nothing),
+        FEATURES => known_features(a),
+        _ => refuse(Reason::Unserved),
+    }
+}

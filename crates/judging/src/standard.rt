@@ -1,0 +1,69 @@
+// Handler 2: core power, single pages, and Realm's hand-over and finish.
+ghost use mathlib.Core.Path.{_≡_};
+ghost use Rattle.mapping.specs.Lists.{held};
+ghost use Rattle.judging.specs.Names.{normal};
+ghost use Rattle.judging.specs.Judge.{viewed, ranged, realms, standard};
+use super::Args;
+use super::Judged;
+use super::Seen;
+use super::names;
+use super::power::power_features;
+use super::power::power_version;
+use super::power::start_core;
+use super::power::state_core;
+use super::power::stop_core;
+use super::refuse;
+use super::transfer::granule_in;
+use super::transfer::granule_out;
+use super::trusted::finish;
+use super::trusted::hand_over;
+use cores::Powers;
+use mapping::Lists;
+use pages::Owners;
+use rules::Reason;
+
+// Realm's range of hand-over.
+fn ranged_call(v: Seen, key: u32) -> Judged
+    ensures { λ r. ⌜ r ≡ ranged v key ⌝ }
+{
+    if key < names::REALM_FIRST {
+        return refuse(Reason::Unserved);
+    }
+    if names::REALM_LAST < key {
+        return refuse(Reason::Unserved);
+    }
+    hand_over(names::REALM, v)
+}
+
+fn realm_call(v: Seen, owners: &Owners, lists: &Lists, a: Args, key: u32) -> Judged
+    ensures { λ r. ⌜ r ≡ realms v (now (owners .entry)) (held (now (lists .entry)) (v .caller)) (held (now (lists .entry)) normal) a key ⌝ }
+{
+    match key {
+        names::GRANULE_TO_REALM => granule_in(v, owners, lists, a),
+        names::GRANULE_TO_NORMAL => granule_out(v, owners, lists, a),
+        names::REALM_FINISH => finish(names::REALM, v),
+        _ => ranged_call(v, key),
+    }
+}
+
+pub fn standard_call(
+    v: Seen,
+    powers: &Powers,
+    owners: &Owners,
+    lists: &Lists,
+    a: Args,
+    key: u32,
+) -> Judged
+    ensures { λ r. ⌜ r ≡ standard (viewed v (now (powers .entry)) (now (owners .entry)) (held (now (lists .entry)) (v .caller)) (held (now (lists .entry)) normal)) a key ⌝ }
+{
+    match key {
+        names::POWER_VERSION => power_version(v),
+        names::CORE_OFF => stop_core(v),
+        names::CORE_START => start_core(v, powers, owners, a),
+        names::CORE_START_WIDE => start_core(v, powers, owners, a),
+        names::CORE_STATE => state_core(v, powers, a),
+        names::CORE_STATE_WIDE => state_core(v, powers, a),
+        names::POWER_FEATURES => power_features(v, a),
+        _ => realm_call(v, owners, lists, a, key),
+    }
+}

@@ -1,0 +1,43 @@
+// Hand-over and finish, and handler 3: the trusted system.
+ghost use mathlib.Core.Path.{_≡_};
+ghost use Rattle.judging.specs.Judge.{handing, finishing, trusted};
+use super::Answer;
+use super::Deed;
+use super::Judged;
+use super::Seen;
+use super::grant;
+use super::names;
+use super::refuse;
+use rules::Reason;
+
+// Normal hands the core over to another world.
+pub fn hand_over(to: u64, v: Seen) -> Judged
+    ensures { λ r. ⌜ r ≡ handing to v ⌝ }
+{
+    if v.caller != names::NORMAL {
+        return refuse(Reason::Unserved);
+    }
+    grant(Answer::Silent, Deed::HandOver(to))
+}
+
+// The world that a core was handed to gives it back.
+pub fn finish(from: u64, v: Seen) -> Judged
+    ensures { λ r. ⌜ r ≡ finishing from v ⌝ }
+{
+    if v.caller != from {
+        return refuse(Reason::Unserved);
+    }
+    if !v.is_open {
+        return refuse(Reason::NotOpen);
+    }
+    grant(Answer::Silent, Deed::Finish)
+}
+
+pub fn trusted_call(v: Seen, key: u32) -> Judged
+    ensures { λ r. ⌜ r ≡ trusted v key ⌝ }
+{
+    if key == names::SECURE_FINISH {
+        return finish(names::SECURE, v);
+    }
+    hand_over(names::SECURE, v)
+}
