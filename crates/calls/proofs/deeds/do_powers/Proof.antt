@@ -1,0 +1,98 @@
+-- In each arm of `do_powers` the deed is known, and with it what becomes of the table.
+use borrow.Author.Needs.{needs}
+use Rattle.calls.specs.Laws.{deeds}
+use Rattle.calls.proofs.deeds.do_powers.Statement.{statement}
+use Rattle.calls.proofs.deeds.do_powers.Tie as tie
+
+enum-told : tie.Need-enum-told
+enum-told c = search needs
+
+enum-told-2 : tie.Need-enum-told-2
+enum-told-2 c = search needs
+
+enum-told-3 : tie.Need-enum-told-3
+enum-told-3 c = search needs
+
+enum-told-4 : tie.Need-enum-told-4
+enum-told-4 c = search needs
+
+enum-known-d : tie.Need-enum-known-d
+enum-known-d c = search needs
+
+power-of-requires : tie.Need-power-of-requires
+power-of-requires c κs = search needs
+
+started-requires : tie.Need-started-requires
+started-requires c κs = search needs
+
+set-power-requires : tie.Need-set-power-requires
+set-power-requires c κs = search needs
+
+enum-told-5 : tie.Need-enum-told-5
+enum-told-5 c = search needs
+
+power-of-requires-2 : tie.Need-power-of-requires-2
+power-of-requires-2 c κs = search needs
+
+stopped-requires : tie.Need-stopped-requires
+stopped-requires c κs = search needs
+
+set-power-requires-2 : tie.Need-set-power-requires-2
+set-power-requires-2 c κs = search needs
+
+enum-told-6 : tie.Need-enum-told-6
+enum-told-6 c = search needs
+
+enum-told-7 : tie.Need-enum-told-7
+enum-told-7 c = search needs
+
+returns : tie.Need-returns
+returns c = search (needs, deeds)
+
+returns-2 : tie.Need-returns-2
+returns-2 c = search (needs, deeds)
+
+returns-3 : tie.Need-returns-3
+returns-3 c = search (needs, deeds)
+
+returns-4 : tie.Need-returns-4
+returns-4 c = search (needs, deeds)
+
+returns-5 : tie.Need-returns-5
+returns-5 c = search (needs, deeds)
+
+returns-6 : tie.Need-returns-6
+returns-6 c = search (needs, deeds)
+
+returns-7 : tie.Need-returns-7
+returns-7 c = search (needs, deeds)
+
+returns-8 : tie.Need-returns-8
+returns-8 c = search (needs, deeds)
+
+pub do-powers-spec : {M : Type 1} → statement M
+do-powers-spec =
+    tie.close
+    (tie.spec
+    enum-told
+    enum-told-2
+    enum-told-3
+    enum-told-4
+    enum-known-d
+    power-of-requires
+    started-requires
+    set-power-requires
+    enum-told-5
+    power-of-requires-2
+    stopped-requires
+    set-power-requires-2
+    enum-told-6
+    enum-told-7
+    returns
+    returns-2
+    returns-3
+    returns-4
+    returns-5
+    returns-6
+    returns-7
+    returns-8)

@@ -1,0 +1,98 @@
+-- In each arm of `do_turns` the deed is known, and with it what becomes of the table.
+use borrow.Author.Needs.{needs}
+use Rattle.calls.specs.Laws.{deeds}
+use Rattle.calls.proofs.deeds.do_turns.Statement.{statement}
+use Rattle.calls.proofs.deeds.do_turns.Tie as tie
+
+enum-told : tie.Need-enum-told
+enum-told c = search needs
+
+enum-told-2 : tie.Need-enum-told-2
+enum-told-2 c = search needs
+
+enum-told-3 : tie.Need-enum-told-3
+enum-told-3 c = search needs
+
+enum-told-4 : tie.Need-enum-told-4
+enum-told-4 c = search needs
+
+enum-told-5 : tie.Need-enum-told-5
+enum-told-5 c = search needs
+
+enum-told-6 : tie.Need-enum-told-6
+enum-told-6 c = search needs
+
+enum-known-d : tie.Need-enum-known-d
+enum-known-d c = search needs
+
+turn-of-requires : tie.Need-turn-of-requires
+turn-of-requires c κs = search needs
+
+handed-requires : tie.Need-handed-requires
+handed-requires c κs = search needs
+
+set-turn-requires : tie.Need-set-turn-requires
+set-turn-requires c κs = search needs
+
+enum-told-7 : tie.Need-enum-told-7
+enum-told-7 c = search needs
+
+turn-of-requires-2 : tie.Need-turn-of-requires-2
+turn-of-requires-2 c κs = search needs
+
+finished-requires : tie.Need-finished-requires
+finished-requires c κs = search needs
+
+set-turn-requires-2 : tie.Need-set-turn-requires-2
+set-turn-requires-2 c κs = search needs
+
+returns : tie.Need-returns
+returns c = search (needs, deeds)
+
+returns-2 : tie.Need-returns-2
+returns-2 c = search (needs, deeds)
+
+returns-3 : tie.Need-returns-3
+returns-3 c = search (needs, deeds)
+
+returns-4 : tie.Need-returns-4
+returns-4 c = search (needs, deeds)
+
+returns-5 : tie.Need-returns-5
+returns-5 c = search (needs, deeds)
+
+returns-6 : tie.Need-returns-6
+returns-6 c = search (needs, deeds)
+
+returns-7 : tie.Need-returns-7
+returns-7 c = search (needs, deeds)
+
+returns-8 : tie.Need-returns-8
+returns-8 c = search (needs, deeds)
+
+pub do-turns-spec : {M : Type 1} → statement M
+do-turns-spec =
+    tie.close
+    (tie.spec
+    enum-told
+    enum-told-2
+    enum-told-3
+    enum-told-4
+    enum-told-5
+    enum-told-6
+    enum-known-d
+    turn-of-requires
+    handed-requires
+    set-turn-requires
+    enum-told-7
+    turn-of-requires-2
+    finished-requires
+    set-turn-requires-2
+    returns
+    returns-2
+    returns-3
+    returns-4
+    returns-5
+    returns-6
+    returns-7
+    returns-8)
