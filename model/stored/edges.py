@@ -1,0 +1,165 @@
+"""The cases without a mark under 'Either side of each rule', then each of the easy errors."""
+
+from script import JUNK, P, TOP, Script
+
+B = 0x80000000
+E = B + 20 * P
+
+
+def edges():
+    s = Script()
+    s.part("set-up: 20 pages at 80000000, 2 cores; all pages Normal's but page 18, which is Secure's")
+    s.window(0, B, 20, 2)
+    for entry in ((0, 0, 1, 0), (2, 2, 1, 1), (4, 4, 1, 2), (50, 50, 1, 3), (2, 2, 0, 3)):
+        s.ledger(0, *entry)
+    s.pages(0, 0, 18, 2)
+    s.pages(0, 18, 1, 1)
+    s.pages(0, 19, 1, 2)
+    last_page(s)
+    seventeenth(s)
+    virtual_end(s)
+    moves_at_once(s)
+    second_start(s)
+    type_and_owner(s)
+    kept_results(s)
+    every_page(s)
+    sums(s)
+    mappings_at_transfer(s)
+    last_core(s)
+    return s
+
+
+def last_page(s):
+    s.part("the last page of the window moves both ways, alone and by the call for several; one page further is -2")
+    s.call("N0", "R", 0xC4000150)
+    s.call("R0", 0, 0xC40001B0, E - P)
+    s.call("R0", 1, 0xC2000012, E - 1)
+    s.call("R0", 0, 0xC40001B1, E - P)
+    s.call("R0", 0, 0xC2000012, E - P)
+    s.call("R0", -2, 0xC40001B0, E)
+    s.call("R0", 0, 0xC2000010, E - P, 1)
+    s.call("R0", 0, 0xC2000011, E - P, 1)
+    s.call("R0", -2, 0xC2000010, E - P, 2)
+    s.call("R0", "N", 0xC400018F)
+
+
+def seventeenth(s):
+    s.part("sixteen mappings are held; a seventeenth is -12, also where it overlaps; with fifteen held that overlap is -1")
+    for i in range(16):
+        s.call("N0", 0, 0xC2000020, B + i * P, i * P, P, i % 3)
+    s.call("N0", -12, 0xC2000020, B + 16 * P, 16 * P, P, 0)
+    s.call("N0", -12, 0xC2000020, B, 0, P, 0)
+    s.call("N0", 0, 0xC2000021, 15 * P, P)
+    s.call("N0", -1, 0xC2000020, B, 0, P, 0)
+    s.call("N0", 0, 0xC2000020, B + 15 * P, 15 * P, P, 0)
+    s.call("N0", 0, 0xC2000021, 15 * P, P)
+
+
+def virtual_end(s):
+    s.part("a virtual end of exactly 2^32 is taken; one page further is -34")
+    s.call("N0", -34, 0xC2000020, B + 15 * P, 2**32 - P, 2 * P, 2)
+    s.call("N0", -34, 0xC2000020, B + 15 * P, 2**32, P, 2)
+    s.call("N0", 0, 0xC2000020, B + 15 * P, 2**32 - P, P, 2)
+    s.call("N0", (0, B + 16 * P - 1, 2), 0xC2000022, 2**32 - 1)
+    s.call("N0", -14, 0xC2000022, 2**32)
+    s.call("N0", 0, 0xC2000021, 2**32 - P, P)
+
+
+def moves_at_once(s):
+    s.part("a page that Normal has mapped is -6 for Realm, and moves as soon as it is unmapped")
+    s.call("N0", "R", 0xC4000150)
+    s.call("R0", -6, 0xC40001B0, B)
+    s.call("R0", -6, 0xC2000010, B, 1)
+    s.call("R0", "N", 0xC400018F)
+    s.call("N0", 0, 0xC2000021, 0, P)
+    s.call("N0", "R", 0xC400018E)
+    s.call("R0", 0, 0xC40001B0, B)
+    s.call("R0", 0, 0xC40001B1, B)
+    s.call("R0", "N", 0xC400018F)
+
+
+def second_start(s):
+    s.part("a second start before the arrival is -5, one after it -4")
+    s.call("N0", 0, 0xC4000003, 1, B + P, 7)
+    s.call("N0", -5, 0xC4000003, 1, B + P, 7)
+    s.call("N0", -5, 0x84000003, 1, B, 7)
+    s.call("N0", 2, 0xC4000004, 1, 0)
+    s.arrive(0, 1)
+    s.call("N0", -4, 0xC4000003, 1, B + P, 7)
+    s.call("N0", 0, 0xC4000004, 1, 0)
+    s.call("N0", 2, 0xC2000030)
+
+
+def type_and_owner(s):
+    s.part("easy error 1: fast calls of owner 2 reach handler 1, yielding ones handler 3; owner 4 has no yielding entry")
+    s.call("N1", 2, 0xC2000030)
+    s.call("N1", "S", 0x42000030)
+    s.call("S1", -1, 0x42000030)
+    s.call("S1", 2, 0xC2000030)
+    s.call("S1", "N", 0xF2000000)
+    s.call("N1", 0x10001, 0x84000000)
+    s.call("N1", -1, 0x04000000)
+
+
+def kept_results(s):
+    s.part("easy error 2: x1 to x3 keep the caller's values on a call of one result and on a refusal, whatever went before")
+    s.call("N0", 0x10002, 0x80000000, 5, 6, 7)
+    s.call("N0", (0, B + P + 9, 1), 0xC2000022, P + 9, 6, 7)
+    s.call("N0", 0x10002, 0x80000000, 8, 9, 10)
+    s.call("N0", -14, 0xC2000022, 17 * P, 6, 7)
+    s.call("N0", -1, 0x84000001, TOP - 1, JUNK, 7)
+    s.call("N1", 0x10001, 0x84000000)
+
+
+def every_page(s):
+    s.part("easy error 3: a third page of Secure's is -3, a mapped second page -6, both in one run of pages -3; no page has moved")
+    s.call("N0", "R", 0xC4000151)
+    s.call("R0", -3, 0xC2000010, B + 16 * P, 3)
+    s.call("R0", -6, 0xC2000010, B, 2)
+    s.call("R0", -3, 0xC2000010, B + 13 * P, 6)
+    for i in (0, 13, 16, 17):
+        s.call("R0", 0, 0xC2000012, B + i * P)
+    s.call("R0", 0, 0xC2000010, B + 15 * P, 3)
+    for i in (15, 16, 17):
+        s.call("R0", 1, 0xC2000012, B + i * P)
+    s.call("R0", -3, 0xC2000011, B + 15 * P, 4)
+    s.call("R0", 0, 0xC2000011, B + 15 * P, 3)
+
+
+def sums(s):
+    s.part("easy error 4: ends that would wrap below the limit in 64 bits are outside: map by size, by virtual start, transfer by count")
+    s.call("R0", 0, 0xC2000010, B + 16 * P, 1)
+    own = B + 16 * P
+    s.call("R0", -34, 0xC2000020, own, 0, TOP - own, 0)
+    s.call("R0", -34, 0xC2000020, own, 0, TOP - P, 0)
+    s.call("R0", -34, 0xC2000020, own, TOP - P, P, 0)
+    s.call("R0", -34, 0xC2000020, own, TOP - P, 2 * P, 0)
+    s.call("R0", -34, 0xC2000020, TOP - P, 0, 2 * P, 0)
+    s.call("R0", -2, 0xC2000011, own, 2**52)
+    s.call("R0", -2, 0xC2000011, own, 2**52 + 1)
+    s.call("R0", -2, 0xC2000011, own, TOP - 1)
+
+
+def mappings_at_transfer(s):
+    s.part("easy error 5: a page that its owner maps does not move, whether the owner gives it or another world takes it")
+    own = B + 16 * P
+    s.call("R0", 0, 0xC2000020, own, 0, P, 1)
+    s.call("R0", -6, 0xC40001B1, own)
+    s.call("R0", -6, 0xC2000011, own, 1)
+    s.call("R0", 0, 0xC2000021, 0, P)
+    s.call("R0", 0, 0xC40001B1, own)
+    s.call("R0", "N", 0xC400018F)
+    s.call("N0", 0, 0xC2000020, own, 16 * P, P, 1)
+    s.call("N0", "R", 0xC4000150)
+    s.call("R0", -6, 0xC40001B0, own)
+    s.call("R0", "N", 0xC400018F)
+
+
+def last_core(s):
+    s.part("the last core that is ON goes OFF too; its registers are shown as given; nothing more is accepted on it")
+    s.call("N1", "off", 0x84000002)
+    s.call("N0", 1, 0xC2000030)
+    s.call("N0", "off", JUNK + 0x84000002, 1, 2, 3)
+    s.refused(0x75, 0, 0x80000000)
+    s.refused(0x75, 1, 0x80000000)
+    s.arrive(0x75, 1)
