@@ -1,6 +1,6 @@
 // measure INPUT COMMAND..: runs the command once on the file, its answers thrown away, and prints
-// the seconds it took and the most memory it held, in kilobytes. It is small itself, because a
-// process counts the memory of the one that started it.
+// the seconds of processor time and of the clock that it took, and the most memory it held, in
+// kilobytes. It is small itself, because a process counts the memory of the one that started it.
 
 #include <fcntl.h>
 #include <stdio.h>
@@ -14,6 +14,11 @@ static double now(void)
     struct timespec t;
     clock_gettime(CLOCK_MONOTONIC, &t);
     return (double)t.tv_sec + (double)t.tv_nsec / 1e9;
+}
+
+static double seconds(struct timeval t)
+{
+    return (double)t.tv_sec + (double)t.tv_usec / 1e6;
 }
 
 static void become(const char *input, char **command)
@@ -39,6 +44,7 @@ int main(int count, char **words)
     struct rusage used;
     if (wait4(child, &status, 0, &used) != child)
         return 2;
-    printf("%.6f %ld\n", now() - start, used.ru_maxrss);
+    double passed = now() - start;
+    printf("%.6f %.6f %ld\n", seconds(used.ru_utime) + seconds(used.ru_stime), passed, used.ru_maxrss);
     return status == 0 ? 0 : 1;
 }
