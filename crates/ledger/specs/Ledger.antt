@@ -6,14 +6,14 @@ use Prim.Native.Nat.{ℕ, _+_, _-_, _≤_, _<_}
 use native.Mathlib.Omega.{arith}
 use lib.Dec.{ltb, leb, eqb}
 use borrow.Author.Tests.{ltb-true, ltb-false, leb-true, eqb-true, le-leb, eq-eqb}
-use Rattle.rules.specs.Choice.{pick, pick-yes, pick-no, either, yes-or-no, both-true, left-true, right-true}
+use Rattle.rules.specs.Choice.{pick, chosen, pick-yes, pick-no, either, yes-or-no, both-true, left-true, right-true}
 use Rattle.rules.specs.Tests.{refuses, sieve}
 use Rattle.rules.specs.Search.{any, any-not, any-if-not}
 use Rattle.ledger.specs.declared.Lookup.{Lookup}
 use Rattle.ledger.specs.declared.Lookup.the-variants.{Handler, Nobody}
 use Rattle.ledger.specs.declared.Entry.{Entry}
 use Rattle.ledger.specs.declared.Entry.the-variants.{Accepted, OutOfRange, Taken}
-use Rattle.ledger.specs.Pairs.{assigned, record-is, recorded-in, recorded-out, recorded-proper, chosen}
+use Rattle.ledger.specs.Pairs.{assigned, record-is, recorded-in, recorded-out, recorded-proper}
 pub use Rattle.ledger.specs.Pairs.{Proper, empty, handler, recorded, empty-proper, empty-handler, pair-known}
 
 -- the pair has a handler

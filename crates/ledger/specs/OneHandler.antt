@@ -5,11 +5,10 @@ use mathlib.Core.List.{List, [], _∷_, _++_, List·Memᴰ, List·Memᴰ·not-ni
 use Prim.Native.Nat.{ℕ, _≤_}
 use native.Mathlib.Omega.{arith}
 use lib.ListN.{length}
-use Rattle.rules.specs.Choice.{pick, pick-yes, pick-no, either}
+use Rattle.rules.specs.Choice.{pick, chosen, pick-yes, pick-no, either}
 use Rattle.ledger.specs.declared.Lookup.{Lookup}
 use Rattle.ledger.specs.declared.Lookup.the-variants.{Handler, Nobody}
 use Rattle.ledger.specs.declared.Entry.{Entry}
-use Rattle.ledger.specs.Pairs.{chosen}
 use Rattle.ledger.specs.Ledger.{Proper, empty, handler, empty-proper, empty-handler, entered, isAccepted, names, handler-after, handler-before, entered-proper}
 use Rattle.ledger.specs.Only.{only, only-has, only-none, only-more, only-next}
 

@@ -6,8 +6,7 @@ use mathlib.Core.Logic.{⊎-elim}
 use Prim.Native.Nat.{ℕ, suc, _≤_}
 use native.Mathlib.Omega.{arith}
 use lib.ListN.{length}
-use Rattle.rules.specs.Choice.{pick, pick-yes, pick-no, yes-or-no}
-use Rattle.ledger.specs.Pairs.{chosen}
+use Rattle.rules.specs.Choice.{pick, chosen, pick-yes, pick-no, yes-or-no}
 
 unfoldable pub only : {A : Type 0} → (A → Bool) → List A → List A
 only p [] = []

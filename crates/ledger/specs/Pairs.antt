@@ -10,7 +10,7 @@ use native.Mathlib.Omega.{arith}
 use lib.Dec.{ltb, leb}
 use lib.ListN.{getD, set, replicate}
 use borrow.Author.Tests.{le-ltb, leb-true}
-use Rattle.rules.specs.Choice.{pick, picked, passed, pick-yes, pick-no, either, left-false, left-true, right-true}
+use Rattle.rules.specs.Choice.{pick, chosen, picked, passed, pick-yes, pick-no, either, left-false, left-true, right-true}
 use Rattle.rules.specs.Tests.{tests}
 use Rattle.rules.specs.Store.{read, write, Whole, read-in, write-in, write-same, write-other, write-whole, blank-whole, blank-read}
 use Rattle.ledger.specs.declared.Lookup.{Lookup}
@@ -51,12 +51,6 @@ assigned t kind first (suc count) number = assigned (put t kind first number) ki
 -- the ledger with an entry more
 pub recorded : List ℕ → ℕ → ℕ → ℕ → ℕ → List ℕ
 recorded t first last kind number = assigned t kind first (last - first + 1) number
-
--- a statement about a choice, by its two outcomes
-pub chosen : {A : Type 0} (P : A → Type 0) (b : Bool) (x y : A) → (b ≡ true → P x) → (b ≡ false → P y) → P (pick b x y)
-unfolding pick
-chosen P true x y f g = f refl
-chosen P false x y f g = g refl
 
 -- ---- for this crate's code: each outcome of a lookup and of a write, and the turns of the loop
 pub blank : replicate 128 0 ≡ empty
