@@ -80,7 +80,7 @@ impl Power {
     }
 }
 
-// The arrival step: the record is lent, and altered here. It answers whether the core was pending.
+// An arrival, in the caller's own record. It answers whether the core was pending.
 pub fn arrive(p: &mut Power) -> bool
     ensures { λ r. ⌜ (r ≡ isPending (now (p .entry))) × (now (p .exit) ≡ arrived (now (p .entry))) ⌝ }
 {

@@ -21,11 +21,11 @@ fits high low v = ltb v (2 ^ (high + 1 - low))
 abbrev pub low32 : ℕ → ℕ
 low32 x = x % 2 ^ 32
 
--- only the low 32 bits of x0 count
+-- the identifier that x0 carries: its lower half
 unfoldable pub identifierOf : ℕ → Identifier
 identifierOf x0 = record { 0 = low32 x0 }
 
--- splitting gives five parts, with bits 23 to 16 as the fifth
+-- an identifier by its fields
 unfoldable pub parts : Identifier → Parts
 parts i =
     record {
@@ -45,7 +45,7 @@ fitting p =
 unfoldable pub wholeOf : Parts → Identifier
 wholeOf p = record { 0 = p .fast * 2 ^ 31 + p .wide * 2 ^ 30 + p .owner * 2 ^ 24 + p .reserved * 2 ^ 16 + p .function }
 
--- joining refuses a part too large for its field, giving no identifier at all
+-- parts that all fit make an identifier; others make none
 unfoldable pub joined : Parts → Joined
 joined p = pick (fitting p) (Whole (wholeOf p)) TooLarge
 
@@ -53,11 +53,11 @@ joined p = pick (fitting p) (Whole (wholeOf p)) TooLarge
 unfoldable pub matched : Identifier → ℕ
 matched i = i .0
 
--- in a fast call bits 23 to 16 must be zero
+-- a fast identifier may have no reserved bit set; a yielding one may
 unfoldable pub admitted : Parts → Bool
 admitted p = pick (eqb (p .fast) 1) (eqb (p .reserved) 0) true
 
--- a call with bit 30 clear reads only the low 32 bits of its arguments
+-- what a call of this width sees of a number
 unfoldable pub argument : Parts → ℕ → ℕ
 argument p x = pick (eqb (p .wide) 0) (low32 x) x
 

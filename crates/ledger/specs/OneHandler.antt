@@ -1,4 +1,4 @@
--- Each pair of type and owner has one handler or none, whatever entries are tried, in whatever order, from an empty ledger on.
+-- No call has two handlers: whatever entries are tried, in whatever order, from an empty ledger on, at most one of them serves a pair.
 use mathlib.Core.Path.{_≡_, refl, sym, ap, _∙_}
 use mathlib.Core.Bool.{Bool, true, _&&_}
 use mathlib.Core.List.{List, [], _∷_, _++_, List·Memᴰ, List·Memᴰ·not-nil, List·Memᴰ·eq-of-singleton}
@@ -9,7 +9,8 @@ use Rattle.rules.specs.Choice.{pick, chosen, pick-yes, pick-no, either}
 use Rattle.ledger.specs.declared.Lookup.{Lookup}
 use Rattle.ledger.specs.declared.Lookup.the-variants.{Handler, Nobody}
 use Rattle.ledger.specs.declared.Entry.{Entry}
-use Rattle.ledger.specs.Ledger.{Proper, empty, handler, empty-proper, empty-handler, entered, isAccepted, names, handler-after, handler-before, entered-proper}
+use Rattle.ledger.specs.declared.Entry.the-variants.{Accepted}
+use Rattle.ledger.specs.Ledger.{Proper, empty, handler, empty-proper, empty-handler, entered, isAccepted, names, handler-after, handler-before, entered-proper, Ranged, accepted-where, granted}
 use Rattle.ledger.specs.Only.{only, only-has, only-none, only-more, only-next}
 
 -- an entry that somebody tries to make: the owners from `first` to `last`, of one type, for the handler `number`
@@ -115,3 +116,30 @@ module _ (tries : List Attempt) (kind owner : ℕ) where
       let i = only-more (covers kind owner) before a (between ++ (b ∷ after)) c in
       let j = only-more (covers kind owner) between b after d in
       omega arith
+
+-- ---- and it refuses no more than it must
+module _ (before : List Attempt) (a : Attempt) where
+  -- the attempt has every number in its range, and no entry accepted before it names a pair of its own
+  pub record Welcome : Type 0 where
+    pub ranged : Ranged (a .first) (a .last) (a .kind) (a .number)
+    pub free : (b : Attempt) (owner : ℕ) → List·Memᴰ b (accepted empty before) → a .first ≤ owner → owner ≤ a .last → covers (a .kind) owner b ≡ true → ⊥
+
+  -- Such an attempt is accepted.
+  pub welcome-accepted : Welcome → answer (ran empty before) a ≡ Accepted
+  welcome-accepted w =
+      ap (λ (e : Entry × List ℕ). e .0)
+      (accepted-where (ran empty before) (a .first) (a .last) (a .kind) (a .number) (w .ranged)
+      (λ owner h l. nobody before (a .kind) owner (λ b m c. w .free b owner m h l c)))
+
+  -- No other is.
+  pub accepted-welcome : answer (ran empty before) a ≡ Accepted → Welcome
+  accepted-welcome e =
+      let g = granted (ran empty before) (a .first) (a .last) (a .kind) (a .number) e in
+      record {
+        ranged = g .ranged;
+        free = λ b owner m h l c.
+            let x = its-handler before (a .kind) owner b m c in
+            let y = g .free owner h l in
+            let z : _≡_ {A = ℕ} 0 1 = cc in
+            omega arith;
+      }

@@ -89,7 +89,7 @@ leadOf l x = leading x (deciding l x)
 abbrev pub unaligned : ℕ → Bool
 unaligned x = not (eqb (x % pageSize) 0)
 
--- one of the three is unaligned, or the attributes are not 0, 1 or 2
+-- a start or the size is no whole number of pages, or there are no such attributes
 unfoldable pub malformed : Mapping → Bool
 malformed m = unaligned (m .virt) || (unaligned (m .phys) || (unaligned (m .size) || ltb lastAttributes (m .attr)))
 
@@ -101,7 +101,7 @@ unfoldable pub isOutside : Place → Bool
 isOutside (Page first) = false
 isOutside Outside = true
 
--- its physical part is not in the window, or its virtual end is above 2^32
+-- it reaches past the window, or past the last virtual address
 unfoldable pub beyond : Window → Mapping → Bool
 beyond w m = isOutside (pagesOf w m) || ltb virtualLimit (m .virt + m .size)
 

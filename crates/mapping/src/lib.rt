@@ -184,7 +184,7 @@ impl Mapping {
         VIRTUAL_LIMIT - self.size < self.virt
     }
 
-    // Whether its physical part is outside the window, or its virtual end above the limit.
+    // Whether it reaches past the window, or past the last virtual address.
     fn is_beyond(self, w: pages::Window) -> bool
         ensures { λ r. ⌜ r ≡ beyond w self ⌝ }
     {

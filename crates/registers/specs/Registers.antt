@@ -56,7 +56,7 @@ left t a xs i = sets t (a + i) (drop i (take 9 xs))
 
 -- ---- what the promises say
 
--- number i of a core and world: x0 to x7, then a start address
+-- number i of a core and world: eight registers, and in ninth place where the core started
 pub saved : List ℕ → ℕ → ℕ → ℕ → ℕ
 saved t c w i = numberIn (partAt t (startOf c w)) i
 
@@ -262,7 +262,7 @@ module _ (t : List ℕ) (c w : ℕ) (h : c < 8) (k : w < 4) where
   unfolding kept keptAt
   kept-is xs = rw (← start-here c w h k)
 
--- all numbers start at zero
+-- at first nothing has been saved: every number is 0
 pub zeros-saved : (c w i : ℕ) → saved zeros c w i ≡ 0
 unfolding zeros
 zeros-saved c w i = numbered c w i (λ h k l. saved-is zeros c w h k i l ∙ getD-replicate 288 (place c w + i) 0 0 (omega arith)) (λ n. n zeros)

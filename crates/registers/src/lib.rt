@@ -1,4 +1,4 @@
-// The saved numbers: x0 to x7, then a start address, of each core and world, in one table that the caller lends.
+// What is saved for each core and world, in one table that the caller lends: eight registers and where the core started.
 // Where there is no such core, world or number, reading gives 0 and writing changes nothing.
 ghost use mathlib.Core.Path.{_≡_};
 ghost use mathlib.Core.List.{[], _∷_};
@@ -21,7 +21,7 @@ enum Start {
     Nowhere,
 }
 
-// All numbers start at zero.
+// Nothing has been saved yet.
 pub fn fresh() -> Saved
     ensures { λ r. ⌜ r ≡ zeros ⌝ }
 {
@@ -131,7 +131,7 @@ pub fn keep_three(t: &mut Saved, core: u64, world: u64, a: u64, b: u64, c: u64)
     keep(t, core, world, &[a, b, c]);
 }
 
-// All nine, as a core finds them that arrives: x0 the context, x1 to x7 zero, and the start address.
+// All nine, as a core finds them that arrives: the context first, then seven zeros, then where it starts.
 pub fn keep_start(t: &mut Saved, core: u64, world: u64, context: u64, address: u64)
     ensures { λ _. ⌜ now (t .exit) ≡ kept (now (t .entry)) core world (context ∷ 0 ∷ 0 ∷ 0 ∷ 0 ∷ 0 ∷ 0 ∷ 0 ∷ address ∷ []) ⌝ }
 {
