@@ -1,0 +1,223 @@
+-- What one step does to each table, and what it leaves: plain laws over any call and any arrival.
+use mathlib.Core.Path.{_≡_, refl, sym, ap, _∙_}
+use mathlib.Core.Bool.{Bool, true, false}
+use mathlib.Core.List.{List, [], _∷_}
+use mathlib.Core.Logic.{_⊎_, inl, inr, ⊎-elim}
+use Prim.Native.Nat.{ℕ, zero, suc, _+_, _-_, _^_, _≤_, _<_}
+use native.Mathlib.Omega.{arith}
+use lib.ListN.{length, getD, take, drop, length-take, length-drop}
+use lib.Seq.{getD-take, getD-drop}
+use Rattle.rules.specs.Choice.{chosen, pick-yes, pick-no, either}
+use Rattle.rules.specs.declared.Reason.{Reason}
+use Rattle.identifiers.specs.declared.Parts.{Parts}
+use Rattle.registers.specs.Registers.{Whole, saved, kept, kept-whole, kept-at, kept-past, kept-other}
+use Rattle.cores.specs.Power.{powerOf, turnOf, put, off, pending, on, isOn, isPending, started, stopped, arrived, started-off, stopped-on, arrived-pending, handed, finished, entered}
+use Rattle.cores.specs.Cores.{WholePowers, WholeTurns, power, powered, turn, turned, power-same, power-other, powered-whole, turn-same, turn-other, turned-whole}
+use Rattle.cores.specs.declared.Power.{Power}
+use Rattle.cores.specs.declared.Turn.{Turn}
+use Rattle.mapping.specs.Lists.{WholeLists, held, holding, released, holding-whole, holding-other, released-whole, released-other}
+use Rattle.judging.specs.Names.{secure, normal, realm}
+use Rattle.judging.specs.Judge.{View, calledBy}
+use Rattle.judging.specs.Grounds.{Takes, Grounds, grounded}
+use Rattle.judging.specs.declared.Answer.{Answer}
+use Rattle.judging.specs.declared.Answer.the-variants.{Version, PowerVersion, Done, On, Off, Pending, Owns, Leads, Count, Silent, No}
+use Rattle.judging.specs.declared.Deed.{Deed}
+use Rattle.judging.specs.declared.Deed.the-variants.{Nothing, Move, Map, Unmap, Start, Stop, HandOver, Finish}
+use Rattle.judging.specs.declared.Judged.{Judged}
+use Rattle.calls.specs.Answers.{minus, written}
+use Rattle.calls.specs.Step.{State, state, sight, callerOf, judgedIn, ownersBy, savedBy, powersBy, turnsBy, listsBy, answeredIn, applied, called, seat, startNumbers, arrivedIn, arrives}
+
+-- ---- names for a step
+-- what is done for a call
+abbrev pub deedIn : State → ℕ → List ℕ → Deed
+deedIn s core xs = judgedIn s core xs .deed
+
+-- what a call is answered
+abbrev pub answerIn : State → ℕ → List ℕ → Answer
+answerIn s core xs = judgedIn s core xs .answer
+
+-- the results that its answer writes
+abbrev pub resultsIn : State → ℕ → List ℕ → List ℕ
+resultsIn s core xs = written (calledBy xs) (answerIn s core xs)
+
+-- the state after a call
+abbrev pub after : State → ℕ → List ℕ → State
+after s core xs = called s core xs .0
+
+-- the state after an arrival
+abbrev pub afterArrival : State → ℕ → State
+afterArrival s core = arrives s core .0
+
+-- ---- the whole state after a call
+-- A deed alone decides what becomes of each table.
+pub stepped-by : (s : State) (core : ℕ) (xs : List ℕ) (d : Deed) → deedIn s core xs ≡ d
+    → after s core xs ≡ state (s .site) (s .ledger)
+        (ownersBy d (s .site .window) (s .owners))
+        (savedBy d (answeredIn (s .saved) core (callerOf s core) xs (answerIn s core xs)) core (callerOf s core) xs)
+        (powersBy d (s .powers) core)
+        (turnsBy d (s .turns) core)
+        (listsBy d (s .lists) (callerOf s core))
+unfolding called applied
+stepped-by s core xs d e = rw e
+
+-- A refused call leaves every table but the caller's numbers: the frame's eight, and over them x0 alone, the refusal's number.
+pub refused : (s : State) (core : ℕ) (xs : List ℕ) (r : Reason) → answerIn s core xs ≡ No r
+    → after s core xs ≡ state (s .site) (s .ledger) (s .owners)
+        (kept (kept (s .saved) core (callerOf s core) xs) core (callerOf s core) ((2 ^ 64 - minus r) ∷ []))
+        (s .powers) (s .turns) (s .lists)
+refused s core xs r e = stepped-by s core xs Nothing (grounded (sight s core) xs .quiet r e) ∙ rw e
+
+-- ---- what set-up fixed
+-- The window, the core count and the ledger never change by a call.
+pub site-fixed : (s : State) (core : ℕ) (xs : List ℕ) → (after s core xs .site ≡ s .site) × (after s core xs .ledger ≡ s .ledger)
+unfolding called applied
+site-fixed s core xs = (refl, refl)
+
+-- Nor by an arrival, which leaves owners and mappings too.
+pub arrival-fixed : (s : State) (core : ℕ)
+    → (afterArrival s core .site ≡ s .site) × ((afterArrival s core .ledger ≡ s .ledger) × ((afterArrival s core .owners ≡ s .owners) × (afterArrival s core .lists ≡ s .lists)))
+arrival-fixed s core = (refl, (refl, (refl, refl)))
+
+-- ---- saved numbers
+-- the world, besides the caller's, whose numbers a deed writes
+abbrev pub Receives : Deed → ℕ → Type 0
+Receives Nothing u = ⊥
+Receives (Move start count to) u = ⊥
+Receives (Map m) u = ⊥
+Receives (Unmap virt size) u = ⊥
+Receives (Start c a x) u = ⊥
+Receives Stop u = ⊥
+Receives (HandOver to) u = to ≡ u
+Receives Finish u = normal ≡ u
+
+deed-spares : (d : Deed) (r : List ℕ) (core caller : ℕ) (xs : List ℕ) (c u j : ℕ) → (core ≡ c → Receives d u → ⊥)
+    → saved (savedBy d r core caller xs) c u j ≡ saved r c u j
+deed-spares Nothing r core caller xs c u j n = refl
+deed-spares (Move start count to) r core caller xs c u j n = refl
+deed-spares (Map m) r core caller xs c u j n = refl
+deed-spares (Unmap virt size) r core caller xs c u j n = refl
+deed-spares (Start k a x) r core caller xs c u j n = refl
+deed-spares Stop r core caller xs c u j n = refl
+deed-spares (HandOver to) r core caller xs c u j n = kept-other r core to xs c u j n
+deed-spares Finish r core caller xs c u j n = kept-other r core normal (take 4 (drop 1 xs)) c u j n
+
+-- no deed that has its grounds writes the caller's numbers
+never-own : (v : View) (d : Deed) → Grounds v d → Receives d (v .seen .caller) → ⊥
+never-own v Nothing g r = r
+never-own v (Move start count to) g r = r
+never-own v (Map m) g r = r
+never-own v (Unmap virt size) g r = r
+never-own v (Start c a x) g r = r
+never-own v Stop g r = r
+never-own v (HandOver to) g r = ⊎-elim (λ (e : to ≡ secure). omega (arith, g .0)) (λ (e : to ≡ realm). omega (arith, g .0)) (g .1)
+never-own v Finish g r = ⊎-elim (λ (e : v .seen .caller ≡ secure). omega arith) (λ (e : v .seen .caller ≡ realm). omega arith) (g .0)
+
+written-few : (p : Parts) (a : Answer) → length (written p a) ≤ 3
+written-few p Version = omega arith
+written-few p PowerVersion = omega arith
+written-few p Done = omega arith
+written-few p On = omega arith
+written-few p Off = omega arith
+written-few p Pending = omega arith
+written-few p (Owns is) = omega arith
+written-few p (Leads phys attr) = omega arith
+written-few p (Count n) = omega arith
+written-few p Silent = omega arith
+written-few p (No r) = omega arith
+
+module _ (r : List ℕ) (core caller : ℕ) (xs : List ℕ) (a : Answer) where
+  answered-other : (c u j : ℕ) → (core ≡ c → caller ≡ u → ⊥) → saved (answeredIn r core caller xs a) c u j ≡ saved r c u j
+  answered-other c u j n = kept-other (kept r core caller xs) core caller (written (calledBy xs) a) c u j n ∙ kept-other r core caller xs c u j n
+
+  answered-whole : Whole r → Whole (answeredIn r core caller xs a)
+  answered-whole w = kept-whole _ core caller _ (kept-whole r core caller xs w)
+
+module _ (s : State) (core : ℕ) (xs : List ℕ) where
+  abbrev asked : List ℕ
+  asked = answeredIn (s .saved) core (callerOf s core) xs (answerIn s core xs)
+
+  saved-is : after s core xs .saved ≡ savedBy (deedIn s core xs) asked core (callerOf s core) xs
+  unfolding called applied
+  saved-is = refl
+
+  -- A call leaves the numbers of every core and world but the caller's and, on its core, the receiver's.
+  pub saved-spared : (c u j : ℕ) → (core ≡ c → callerOf s core ≡ u → ⊥) → (core ≡ c → Receives (deedIn s core xs) u → ⊥)
+      → saved (after s core xs .saved) c u j ≡ saved (s .saved) c u j
+  saved-spared c u j n m =
+      rw saved-is (deed-spares (deedIn s core xs) asked core (callerOf s core) xs c u j m
+      ∙ answered-other (s .saved) core (callerOf s core) xs (answerIn s core xs) c u j n)
+
+  -- A call never changes the numbers of another core.
+  pub saved-other-core : (c u j : ℕ) → (core ≡ c → ⊥) → saved (after s core xs .saved) c u j ≡ saved (s .saved) c u j
+  saved-other-core c u j n = saved-spared c u j (λ e f. n e) (λ e f. n e)
+
+  -- On its own core a call changes another world's numbers only where the deed hands over to it or finishes into it.
+  pub saved-other-world : (u j : ℕ) → (callerOf s core ≡ u → ⊥) → (Receives (deedIn s core xs) u → ⊥)
+      → saved (after s core xs .saved) core u j ≡ saved (s .saved) core u j
+  saved-other-world u j n m = saved-spared core u j (λ e f. n f) (λ e f. m f)
+
+  -- The caller's numbers are the frame's, and over them the results: no deed writes them.
+  pub own-numbers : (j : ℕ) → saved (after s core xs .saved) core (callerOf s core) j ≡ saved asked core (callerOf s core) j
+  own-numbers j =
+      rw saved-is (deed-spares (deedIn s core xs) asked core (callerOf s core) xs core (callerOf s core) j
+      (λ e. never-own (sight s core .view) (deedIn s core xs) (grounded (sight s core) xs .stands)))
+
+  -- What the answer lists stands in the caller's x0 and on.
+  pub own-results : (j : ℕ) → Whole (s .saved) → core < 8 → callerOf s core < 4 → j < length (resultsIn s core xs)
+      → saved (after s core xs .saved) core (callerOf s core) j ≡ getD (resultsIn s core xs) j 0
+  own-results j w h k l =
+      let few = written-few (calledBy xs) (answerIn s core xs) in
+      own-numbers j ∙ kept-at (kept (s .saved) core (callerOf s core) xs) core (callerOf s core) (resultsIn s core xs) j
+      (kept-whole (s .saved) core (callerOf s core) xs w) h k (omega arith) l
+
+  -- What it does not list keeps the frame's number.
+  pub own-frame : (j : ℕ) → Whole (s .saved) → core < 8 → callerOf s core < 4 → j < 9 → j < length xs → length (resultsIn s core xs) ≤ j
+      → saved (after s core xs .saved) core (callerOf s core) j ≡ getD xs j 0
+  own-frame j w h k l m n =
+      own-numbers j
+      ∙ kept-past (kept (s .saved) core (callerOf s core) xs) core (callerOf s core) (resultsIn s core xs) j n
+      ∙ kept-at (s .saved) core (callerOf s core) xs j w h k l m
+
+  -- The caller's start address stays, as does every number past the frame's.
+  pub own-past : (j : ℕ) → 3 ≤ j → length xs ≤ j → saved (after s core xs .saved) core (callerOf s core) j ≡ saved (s .saved) core (callerOf s core) j
+  own-past j h l =
+      let few = written-few (calledBy xs) (answerIn s core xs) in
+      own-numbers j
+      ∙ kept-past (kept (s .saved) core (callerOf s core) xs) core (callerOf s core) (resultsIn s core xs) j (omega arith)
+      ∙ kept-past (s .saved) core (callerOf s core) xs j l
+
+  module _ (to : ℕ) (e : deedIn s core xs ≡ HandOver to) where
+    hands : (callerOf s core ≡ normal) × Takes to
+    hands = rw e at (grounded (sight s core) xs .stands)
+
+    -- A hand-over gives the receiver the frame's x0 to x7.
+    pub handed-numbers : (j : ℕ) → Whole (s .saved) → core < 8 → length xs ≡ 8 → j < 8 → saved (after s core xs .saved) core to j ≡ getD xs j 0
+    handed-numbers j w h l k =
+        let t : to < 4 = ⊎-elim (λ (y : to ≡ secure). omega arith) (λ (y : to ≡ realm). omega arith) (hands .1) in
+        rw (saved-is, e) (kept-at asked core to xs j (answered-whole (s .saved) core (callerOf s core) xs (answerIn s core xs) w) h t (omega arith) (omega arith))
+
+    -- The receiver's other numbers stay.
+    pub handed-rest : (j : ℕ) → length xs ≤ j → saved (after s core xs .saved) core to j ≡ saved (s .saved) core to j
+    handed-rest j l =
+        rw (saved-is, e) (kept-past asked core to xs j l
+        ∙ answered-other (s .saved) core (callerOf s core) xs (answerIn s core xs) core to j
+        (λ y z. ⊎-elim (λ (y : to ≡ secure). omega (arith, hands .0)) (λ (y : to ≡ realm). omega (arith, hands .0)) (hands .1)))
+
+  module _ (e : deedIn s core xs ≡ Finish) where
+    finishes : Takes (callerOf s core) × (turn (s .turns) core .is_open ≡ true)
+    finishes = rw e at (grounded (sight s core) xs .stands)
+
+    -- A finish gives Normal the finisher's x1 to x4 as its x0 to x3.
+    pub finished-numbers : (j : ℕ) → Whole (s .saved) → core < 8 → length xs ≡ 8 → j < 4 → saved (after s core xs .saved) core normal j ≡ getD xs (1 + j) 0
+    finished-numbers j w h l k =
+        let n : length (take 4 (drop 1 xs)) ≡ 4 = simp (length-take, length-drop) (omega arith) in
+        rw (saved-is, e) (kept-at asked core normal (take 4 (drop 1 xs)) j (answered-whole (s .saved) core (callerOf s core) xs (answerIn s core xs) w) h (omega arith) (omega arith) (omega arith)
+        ∙ getD-take 4 (drop 1 xs) j 0 k ∙ getD-drop 1 xs j 0)
+
+    -- Normal's other numbers stay.
+    pub finished-rest : (j : ℕ) → 4 ≤ j → saved (after s core xs .saved) core normal j ≡ saved (s .saved) core normal j
+    finished-rest j l =
+        let n : length (take 4 (drop 1 xs)) ≤ 4 = simp (length-take, length-drop) (omega arith) in
+        rw (saved-is, e) (kept-past asked core normal (take 4 (drop 1 xs)) j (omega arith)
+        ∙ answered-other (s .saved) core (callerOf s core) xs (answerIn s core xs) core normal j
+        (λ y z. ⊎-elim (λ (k : callerOf s core ≡ secure). omega arith) (λ (k : callerOf s core ≡ realm). omega arith) (finishes .0)))
