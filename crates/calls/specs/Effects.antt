@@ -1,5 +1,5 @@
 -- What one step does to each table, and what it leaves: plain laws over any call and any arrival.
-use mathlib.Core.Path.{_≡_, refl, sym, ap, _∙_}
+use mathlib.Core.Path.{_≡_, refl, sym, ap, subst, _∙_}
 use mathlib.Core.Bool.{Bool, true, false}
 use mathlib.Core.List.{List, [], _∷_}
 use mathlib.Core.Logic.{_⊎_, inl, inr, ⊎-elim}
@@ -18,14 +18,14 @@ use Rattle.cores.specs.declared.Turn.{Turn}
 use Rattle.mapping.specs.Lists.{WholeLists, held, holding, released, holding-whole, holding-other, released-whole, released-other}
 use Rattle.judging.specs.Names.{secure, normal, realm}
 use Rattle.judging.specs.Judge.{View, calledBy}
-use Rattle.judging.specs.Grounds.{Takes, Grounds, grounded}
+use Rattle.judging.specs.Grounds.{Takes, Starts, Grounds, grounded}
 use Rattle.judging.specs.declared.Answer.{Answer}
 use Rattle.judging.specs.declared.Answer.the-variants.{Version, PowerVersion, Done, On, Off, Pending, Owns, Leads, Count, Silent, No}
 use Rattle.judging.specs.declared.Deed.{Deed}
 use Rattle.judging.specs.declared.Deed.the-variants.{Nothing, Move, Map, Unmap, Start, Stop, HandOver, Finish}
 use Rattle.judging.specs.declared.Judged.{Judged}
 use Rattle.calls.specs.Answers.{minus, written}
-use Rattle.calls.specs.Step.{State, state, sight, callerOf, judgedIn, ownersBy, savedBy, powersBy, turnsBy, listsBy, answeredIn, applied, called, seat, startNumbers, arrivedIn, arrives}
+use Rattle.calls.specs.Step.{State, state, sight, callerOf, judgedIn, ownersBy, savedBy, powersBy, turnsBy, listsBy, answeredIn, applied, called, Seat, startNumbers, arrivedIn, arrives}
 
 -- ---- names for a step
 -- what is done for a call
@@ -40,6 +40,10 @@ answerIn s core xs = judgedIn s core xs .answer
 abbrev pub resultsIn : State → ℕ → List ℕ → List ℕ
 resultsIn s core xs = written (calledBy xs) (answerIn s core xs)
 
+-- the saved numbers once the call is answered: the frame's, and over them the results
+abbrev pub answeredBy : State → ℕ → List ℕ → List ℕ
+answeredBy s core xs = answeredIn (s .saved) core (callerOf s core) xs (answerIn s core xs)
+
 -- the state after a call
 abbrev pub after : State → ℕ → List ℕ → State
 after s core xs = called s core xs .0
@@ -53,7 +57,7 @@ afterArrival s core = arrives s core .0
 pub stepped-by : (s : State) (core : ℕ) (xs : List ℕ) (d : Deed) → deedIn s core xs ≡ d
     → after s core xs ≡ state (s .site) (s .ledger)
         (ownersBy d (s .site .window) (s .owners))
-        (savedBy d (answeredIn (s .saved) core (callerOf s core) xs (answerIn s core xs)) core (callerOf s core) xs)
+        (savedBy d (answeredBy s core xs) core (callerOf s core) xs)
         (powersBy d (s .powers) core)
         (turnsBy d (s .turns) core)
         (listsBy d (s .lists) (callerOf s core))
@@ -133,10 +137,7 @@ module _ (r : List ℕ) (core caller : ℕ) (xs : List ℕ) (a : Answer) where
   answered-whole w = kept-whole _ core caller _ (kept-whole r core caller xs w)
 
 module _ (s : State) (core : ℕ) (xs : List ℕ) where
-  abbrev asked : List ℕ
-  asked = answeredIn (s .saved) core (callerOf s core) xs (answerIn s core xs)
-
-  saved-is : after s core xs .saved ≡ savedBy (deedIn s core xs) asked core (callerOf s core) xs
+  saved-is : after s core xs .saved ≡ savedBy (deedIn s core xs) (answeredBy s core xs) core (callerOf s core) xs
   unfolding called applied
   saved-is = refl
 
@@ -144,7 +145,7 @@ module _ (s : State) (core : ℕ) (xs : List ℕ) where
   pub saved-spared : (c u j : ℕ) → (core ≡ c → callerOf s core ≡ u → ⊥) → (core ≡ c → Receives (deedIn s core xs) u → ⊥)
       → saved (after s core xs .saved) c u j ≡ saved (s .saved) c u j
   saved-spared c u j n m =
-      rw saved-is (deed-spares (deedIn s core xs) asked core (callerOf s core) xs c u j m
+      rw saved-is (deed-spares (deedIn s core xs) (answeredBy s core xs) core (callerOf s core) xs c u j m
       ∙ answered-other (s .saved) core (callerOf s core) xs (answerIn s core xs) c u j n)
 
   -- A call never changes the numbers of another core.
@@ -157,9 +158,9 @@ module _ (s : State) (core : ℕ) (xs : List ℕ) where
   saved-other-world u j n m = saved-spared core u j (λ e f. n f) (λ e f. m f)
 
   -- The caller's numbers are the frame's, and over them the results: no deed writes them.
-  pub own-numbers : (j : ℕ) → saved (after s core xs .saved) core (callerOf s core) j ≡ saved asked core (callerOf s core) j
+  pub own-numbers : (j : ℕ) → saved (after s core xs .saved) core (callerOf s core) j ≡ saved (answeredBy s core xs) core (callerOf s core) j
   own-numbers j =
-      rw saved-is (deed-spares (deedIn s core xs) asked core (callerOf s core) xs core (callerOf s core) j
+      rw saved-is (deed-spares (deedIn s core xs) (answeredBy s core xs) core (callerOf s core) xs core (callerOf s core) j
       (λ e. never-own (sight s core .view) (deedIn s core xs) (grounded (sight s core) xs .stands)))
 
   -- What the answer lists stands in the caller's x0 and on.
@@ -194,12 +195,12 @@ module _ (s : State) (core : ℕ) (xs : List ℕ) where
     pub handed-numbers : (j : ℕ) → Whole (s .saved) → core < 8 → length xs ≡ 8 → j < 8 → saved (after s core xs .saved) core to j ≡ getD xs j 0
     handed-numbers j w h l k =
         let t : to < 4 = ⊎-elim (λ (y : to ≡ secure). omega arith) (λ (y : to ≡ realm). omega arith) (hands .1) in
-        rw (saved-is, e) (kept-at asked core to xs j (answered-whole (s .saved) core (callerOf s core) xs (answerIn s core xs) w) h t (omega arith) (omega arith))
+        rw (saved-is, e) (kept-at (answeredBy s core xs) core to xs j (answered-whole (s .saved) core (callerOf s core) xs (answerIn s core xs) w) h t (omega arith) (omega arith))
 
     -- The receiver's other numbers stay.
     pub handed-rest : (j : ℕ) → length xs ≤ j → saved (after s core xs .saved) core to j ≡ saved (s .saved) core to j
     handed-rest j l =
-        rw (saved-is, e) (kept-past asked core to xs j l
+        rw (saved-is, e) (kept-past (answeredBy s core xs) core to xs j l
         ∙ answered-other (s .saved) core (callerOf s core) xs (answerIn s core xs) core to j
         (λ y z. ⊎-elim (λ (y : to ≡ secure). omega (arith, hands .0)) (λ (y : to ≡ realm). omega (arith, hands .0)) (hands .1)))
 
@@ -211,13 +212,178 @@ module _ (s : State) (core : ℕ) (xs : List ℕ) where
     pub finished-numbers : (j : ℕ) → Whole (s .saved) → core < 8 → length xs ≡ 8 → j < 4 → saved (after s core xs .saved) core normal j ≡ getD xs (1 + j) 0
     finished-numbers j w h l k =
         let n : length (take 4 (drop 1 xs)) ≡ 4 = simp (length-take, length-drop) (omega arith) in
-        rw (saved-is, e) (kept-at asked core normal (take 4 (drop 1 xs)) j (answered-whole (s .saved) core (callerOf s core) xs (answerIn s core xs) w) h (omega arith) (omega arith) (omega arith)
+        rw (saved-is, e) (kept-at (answeredBy s core xs) core normal (take 4 (drop 1 xs)) j (answered-whole (s .saved) core (callerOf s core) xs (answerIn s core xs) w) h (omega arith) (omega arith) (omega arith)
         ∙ getD-take 4 (drop 1 xs) j 0 k ∙ getD-drop 1 xs j 0)
 
     -- Normal's other numbers stay.
     pub finished-rest : (j : ℕ) → 4 ≤ j → saved (after s core xs .saved) core normal j ≡ saved (s .saved) core normal j
     finished-rest j l =
         let n : length (take 4 (drop 1 xs)) ≤ 4 = simp (length-take, length-drop) (omega arith) in
-        rw (saved-is, e) (kept-past asked core normal (take 4 (drop 1 xs)) j (omega arith)
+        rw (saved-is, e) (kept-past (answeredBy s core xs) core normal (take 4 (drop 1 xs)) j (omega arith)
         ∙ answered-other (s .saved) core (callerOf s core) xs (answerIn s core xs) core normal j
         (λ y z. ⊎-elim (λ (k : callerOf s core ≡ secure). omega arith) (λ (k : callerOf s core ≡ realm). omega arith) (finishes .0)))
+
+-- ---- power
+-- the core whose power a deed changes: the started one, or the calling one
+abbrev pub Switches : Deed → ℕ → ℕ → Type 0
+Switches Nothing core c = ⊥
+Switches (Move start count to) core c = ⊥
+Switches (Map m) core c = ⊥
+Switches (Unmap virt size) core c = ⊥
+Switches (Start k a x) core c = c ≡ k
+Switches Stop core c = c ≡ core
+Switches (HandOver to) core c = ⊥
+Switches Finish core c = ⊥
+
+power-by : (d : Deed) (t : List ℕ) (core c : ℕ) → (Switches d core c → ⊥) → power (powersBy d t core) c ≡ power t c
+power-by Nothing t core c n = refl
+power-by (Move start count to) t core c n = refl
+power-by (Map m) t core c n = refl
+power-by (Unmap virt size) t core c n = refl
+power-by (Start k a x) t core c n = power-other t k (started (power t k) a x) c n
+power-by Stop t core c n = power-other t core (stopped (power t core)) c n
+power-by (HandOver to) t core c n = refl
+power-by Finish t core c n = refl
+
+-- the deeds that change what the calling core runs
+abbrev pub Turns : Deed → Type 0
+Turns Nothing = ⊥
+Turns (Move start count to) = ⊥
+Turns (Map m) = ⊥
+Turns (Unmap virt size) = ⊥
+Turns (Start k a x) = ⊥
+Turns Stop = ⊥
+Turns (HandOver to) = Unit {0}
+Turns Finish = Unit {0}
+
+turn-by : (d : Deed) (t : List ℕ) (core c : ℕ) → (c ≡ core → Turns d → ⊥) → turn (turnsBy d t core) c ≡ turn t c
+turn-by Nothing t core c n = refl
+turn-by (Move start count to) t core c n = refl
+turn-by (Map m) t core c n = refl
+turn-by (Unmap virt size) t core c n = refl
+turn-by (Start k a x) t core c n = refl
+turn-by Stop t core c n = refl
+turn-by (HandOver to) t core c n = turn-other t core (handed (turn t core) to) c (λ e. n e tt)
+turn-by Finish t core c n = turn-other t core (finished (turn t core)) c (λ e. n e tt)
+
+-- the deeds that change the caller's list
+abbrev pub Lists : Deed → Type 0
+Lists Nothing = ⊥
+Lists (Move start count to) = ⊥
+Lists (Map m) = Unit {0}
+Lists (Unmap virt size) = Unit {0}
+Lists (Start k a x) = ⊥
+Lists Stop = ⊥
+Lists (HandOver to) = ⊥
+Lists Finish = ⊥
+
+list-by : (d : Deed) (t : List ℕ) (caller world : ℕ) → (world ≡ caller → Lists d → ⊥) → held (listsBy d t caller) world ≡ held t world
+list-by Nothing t caller world n = refl
+list-by (Move start count to) t caller world n = refl
+list-by (Map m) t caller world n = holding-other t caller m world (λ e. n e tt)
+list-by (Unmap virt size) t caller world n = released-other t caller virt size world (λ e. n e tt)
+list-by (Start k a x) t caller world n = refl
+list-by Stop t caller world n = refl
+list-by (HandOver to) t caller world n = refl
+list-by Finish t caller world n = refl
+
+module _ (s : State) (core : ℕ) (xs : List ℕ) where
+  -- A call changes the power of no core but the one that it starts and, where it stops itself, its own.
+  pub power-spared : (c : ℕ) → (Switches (deedIn s core xs) core c → ⊥) → power (after s core xs .powers) c ≡ power (s .powers) c
+  unfolding called applied
+  power-spared c n = power-by (deedIn s core xs) (s .powers) core c n
+
+  -- A started core is pending, with the call's address and context.
+  pub power-started : (c a x : ℕ) → deedIn s core xs ≡ Start c a x → WholePowers (s .powers) → c < 8 → power (after s core xs .powers) c ≡ powerOf pending a x
+  unfolding called applied
+  power-started c a x e w h =
+      let g : Starts (sight s core .view) c a = rw e at (grounded (sight s core) xs .stands) in
+      rw e (power-same (s .powers) c (started (power (s .powers) c) a x) w h ∙ started-off (power (s .powers) c) a x (g .not-on) (g .not-pending))
+
+  -- A core that stops itself is OFF.
+  pub power-stopped : deedIn s core xs ≡ Stop → WholePowers (s .powers) → core < 8 → isOn (power (s .powers) core) ≡ true
+      → power (after s core xs .powers) core ≡ put (power (s .powers) core) off
+  unfolding called applied
+  power-stopped e w h o = rw e (power-same (s .powers) core (stopped (power (s .powers) core)) w h ∙ stopped-on (power (s .powers) core) o)
+
+  -- A call changes what runs on no core but its own, and there only by a hand-over or a finish.
+  pub turn-spared : (c : ℕ) → (c ≡ core → Turns (deedIn s core xs) → ⊥) → turn (after s core xs .turns) c ≡ turn (s .turns) c
+  unfolding called applied
+  turn-spared c n = turn-by (deedIn s core xs) (s .turns) core c n
+
+  -- After a hand-over the receiver runs, with the hand-over open.
+  pub turn-handed : (to : ℕ) → deedIn s core xs ≡ HandOver to → WholeTurns (s .turns) → core < 8 → turn (after s core xs .turns) core ≡ turnOf to true
+  unfolding called applied
+  turn-handed to e w h = rw e (turn-same (s .turns) core (handed (turn (s .turns) core) to) w h)
+
+  -- After a finish Normal runs, with nothing open.
+  pub turn-finished : deedIn s core xs ≡ Finish → WholeTurns (s .turns) → core < 8 → turn (after s core xs .turns) core ≡ turnOf normal false
+  unfolding called applied
+  turn-finished e w h = rw e (turn-same (s .turns) core (finished (turn (s .turns) core)) w h)
+
+  -- A call changes no list but the caller's, and that only by mapping or unmapping.
+  pub list-spared : (world : ℕ) → (world ≡ callerOf s core → Lists (deedIn s core xs) → ⊥) → held (after s core xs .lists) world ≡ held (s .lists) world
+  unfolding called applied
+  list-spared world n = list-by (deedIn s core xs) (s .lists) (callerOf s core) world n
+
+-- ---- an arrival
+-- the state with what an arrival leaves of the tables that it touches
+abbrev seated : State → Seat × Bool → State × Bool
+seated s a = (state (s .site) (s .ledger) (s .owners) (a .0 .saved) (a .0 .powers) (a .0 .turns) (s .lists), a .1)
+
+-- the state once a pending core has come: ON, in Normal, with the numbers of its start
+abbrev pub comeIn : State → ℕ → State
+comeIn s core =
+    state (s .site) (s .ledger) (s .owners)
+    (kept (s .saved) core normal (startNumbers (power (s .powers) core)))
+    (powered (s .powers) core (put (power (s .powers) core) on))
+    (turned (s .turns) core (turnOf normal false))
+    (s .lists)
+
+module _ (s : State) (core : ℕ) where
+  -- Where the core is not pending, nothing changes.
+  pub arrival-away : isPending (power (s .powers) core) ≡ false → arrives s core ≡ (s, false)
+  unfolding arrivedIn
+  arrival-away n = ap (seated s) (pick-no _ _ _ n)
+
+  -- A pending core comes.
+  pub arrival-comes : isPending (power (s .powers) core) ≡ true → arrives s core ≡ (comeIn s core, true)
+  unfolding arrivedIn
+  arrival-comes y = ap (seated s) (pick-yes _ _ _ y) ∙ rw (arrived-pending (power (s .powers) core) y)
+
+  -- what holds once the core has come holds after the arrival of a pending one
+  pub arrived-by : (P : State → Type 0) → isPending (power (s .powers) core) ≡ true → P (comeIn s core) → P (afterArrival s core)
+  arrived-by P y h = subst (λ (a : State × Bool). P (a .0)) (sym (arrival-comes y)) h
+
+  -- what holds of the state before, and once the core has come, holds after an arrival
+  pub arrival-by : (P : State → Type 0) → P s → (isPending (power (s .powers) core) ≡ true → P (comeIn s core)) → P (afterArrival s core)
+  arrival-by P n y =
+      either (isPending (power (s .powers) core)) (λ e. arrived-by P e (y e)) (λ e. subst (λ (a : State × Bool). P (a .0)) (sym (arrival-away e)) n)
+
+  -- An arrival leaves every number but those of Normal on its core.
+  pub arrival-saved : (c u j : ℕ) → (core ≡ c → normal ≡ u → ⊥) → saved (afterArrival s core .saved) c u j ≡ saved (s .saved) c u j
+  arrival-saved c u j n =
+      arrival-by (λ (q : State). saved (q .saved) c u j ≡ saved (s .saved) c u j) refl (λ y. kept-other (s .saved) core normal (startNumbers (power (s .powers) core)) c u j n)
+
+  -- It leaves the power of every other core, and what runs there.
+  pub arrival-power : (c : ℕ) → (c ≡ core → ⊥) → power (afterArrival s core .powers) c ≡ power (s .powers) c
+  arrival-power c n =
+      arrival-by (λ (q : State). power (q .powers) c ≡ power (s .powers) c) refl (λ y. power-other (s .powers) core (put (power (s .powers) core) on) c n)
+
+  pub arrival-turn : (c : ℕ) → (c ≡ core → ⊥) → turn (afterArrival s core .turns) c ≡ turn (s .turns) c
+  arrival-turn c n = arrival-by (λ (q : State). turn (q .turns) c ≡ turn (s .turns) c) refl (λ y. turn-other (s .turns) core (turnOf normal false) c n)
+
+  module _ (y : isPending (power (s .powers) core) ≡ true) (h : core < 8) where
+    -- A core that arrives finds the context in x0, zero in x1 to x7, and then its start address.
+    pub arrived-numbers : (j : ℕ) → Whole (s .saved) → j < 9 → saved (afterArrival s core .saved) core normal j ≡ getD (startNumbers (power (s .powers) core)) j 0
+    arrived-numbers j w l =
+        arrived-by (λ (q : State). saved (q .saved) core normal j ≡ getD (startNumbers (power (s .powers) core)) j 0) y
+        (kept-at (s .saved) core normal (startNumbers (power (s .powers) core)) j w h (omega arith) l (omega arith))
+
+    -- It is ON, in Normal, with nothing open.
+    pub arrived-power : WholePowers (s .powers) → power (afterArrival s core .powers) core ≡ put (power (s .powers) core) on
+    arrived-power w =
+        arrived-by (λ (q : State). power (q .powers) core ≡ put (power (s .powers) core) on) y (power-same (s .powers) core (put (power (s .powers) core) on) w h)
+
+    pub arrived-turn : WholeTurns (s .turns) → turn (afterArrival s core .turns) core ≡ turnOf normal false
+    arrived-turn w = arrived-by (λ (q : State). turn (q .turns) core ≡ turnOf normal false) y (turn-same (s .turns) core (turnOf normal false) w h)
