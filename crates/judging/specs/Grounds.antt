@@ -4,17 +4,17 @@ use mathlib.Core.Bool.{Bool, true, false, not, _||_}
 use mathlib.Core.List.{List, [], _∷_}
 use mathlib.Core.Logic.{_⊎_, inl, inr}
 use Prim.Native.Nat.{ℕ, _<_}
+use native.Mathlib.Omega.{arith}
 use lib.Dec.{eqb, leb}
 use borrow.Author.Tests.{eqb-true, leb-false, not-false}
 use Rattle.rules.specs.Choice.{chosen, either, yes-or-no}
-use Rattle.rules.specs.Tests.{Test, sieve, sieved, Clear}
+use Rattle.rules.specs.Tests.{Test, sieved, Clear}
 use Rattle.rules.specs.declared.Reason.{Reason}
 use Rattle.rules.specs.declared.Reason.the-variants as Reason
 use Rattle.ledger.specs.declared.Lookup.{Lookup}
 use Rattle.ledger.specs.declared.Lookup.the-variants.{Handler, Nobody}
 use Rattle.cores.specs.Power.{isOn, isPending}
 use Rattle.cores.specs.Cores.{power}
-use Rattle.pages.specs.declared.Window.{Window}
 use Rattle.pages.specs.declared.Place.{Place}
 use Rattle.pages.specs.declared.Place.the-variants.{Page, Outside}
 use Rattle.mapping.specs.Mapping.{mapVerdict, hasExactly}
@@ -24,6 +24,7 @@ use Rattle.mapping.specs.declared.Verdict.the-variants as Verdict
 use Rattle.mapping.specs.declared.Lead.{Lead}
 use Rattle.mapping.specs.declared.Lead.the-variants as Lead
 use Rattle.transfers.specs.Transfer.{moveVerdict, severalVerdict}
+use Rattle.transfers.specs.Kept.{several-granted}
 use Rattle.transfers.specs.declared.Verdict.{Verdict as Moving}
 use Rattle.transfers.specs.declared.Verdict.the-variants as Moving
 use Rattle.judging.specs.Names.{secure, normal, realm}
@@ -54,6 +55,7 @@ pub record Moves (s : View) (start count to : ℕ) : Type 0 where
   pub from : ℕ
   pub list : List Mapping
   pub between : Between s from to list
+  pub some : 0 < count
   pub caller : Takes (s .seen .caller)
   pub verdict : moveVerdict (s .seen .window) (s .owners) list from start count ≡ Moving.Granted
 
@@ -128,13 +130,6 @@ is-caller w e =
     (λ m. either (eqb w realm) (λ y. inr (inr (eqb-true w realm y)))
     (λ k. let z : not (eqb w secure || (eqb w normal || (eqb w realm || false))) ≡ true = rw (m, n, k) in absurd (yes-or-no _ z e))))
 
--- a transfer of several pages that is granted is one of pages
-several-granted : (w : Window) (o : List ℕ) (list : List Mapping) (from start count : ℕ) → severalVerdict w o list from start count ≡ Moving.Granted → moveVerdict w o list from start count ≡ Moving.Granted
-unfolding severalVerdict
-several-granted w o list from start count =
-    sieved (λ (v : Moving). v ≡ Moving.Granted → moveVerdict w o list from start count ≡ Moving.Granted) Moving.No _ _
-    (λ r (e : Moving.No r ≡ Moving.Granted). cc) (λ c e. e)
-
 -- ---- each call
 module _ (s : View) (a : Args) where
   affirming : (b : Bool) → Grounded s (affirmed b)
@@ -183,25 +178,29 @@ module _ (s : View) (a : Args) where
   unfolding granuleIn Clear
   granules-in =
       testing s _ _ (λ c. let e : s .seen .caller ≡ realm = is-world (s .seen .caller) realm (c .0) in
-      transfers _ _ _ _ (λ v. subst (λ (to : ℕ). Moves s (a .x1) 1 to) e (record { from = normal; list = s .theirs; between = toCaller; caller = inr e; verdict = v })))
+      transfers _ _ _ _ (λ v. subst (λ (to : ℕ). Moves s (a .x1) 1 to) e (record { from = normal; list = s .theirs; between = toCaller; some = omega arith; caller = inr e; verdict = v })))
 
   granules-out : Grounded s (granuleOut (s .seen) (s .owners) (s .own) a)
   unfolding granuleOut Clear
   granules-out =
       testing s _ _ (λ c. transfers _ _ _ _ (λ v.
-      record { from = s .seen .caller; list = s .own; between = toNormal; caller = inr (is-world (s .seen .caller) realm (c .0)); verdict = v }))
+      record { from = s .seen .caller; list = s .own; between = toNormal; some = omega arith; caller = inr (is-world (s .seen .caller) realm (c .0)); verdict = v }))
+
+  -- a grant of several pages is one of pages, and of at least one
+  several : {from to : ℕ} {list : List Mapping} → Between s from to list → Takes (s .seen .caller)
+      → severalVerdict (s .seen .window) (s .owners) list from (a .x1) (a .x2) ≡ Moving.Granted → Moves s (a .x1) (a .x2) to
+  several {from} {to} {list} b t v =
+      let g = several-granted (s .seen .window) (s .owners) list from (a .x1) (a .x2) v in
+      let n : a .x2 ≡ 0 → ⊥ = g .1 in
+      record { from = from; list = list; between = b; some = omega arith; caller = t; verdict = g .0 }
 
   takings : Grounded s (taking (s .seen) (s .owners) (s .theirs) a)
   unfolding taking Clear
-  takings =
-      testing s _ _ (λ c. transfers _ _ _ _ (λ v.
-      record { from = normal; list = s .theirs; between = toCaller; caller = is-taker (s .seen .caller) (c .0); verdict = several-granted _ _ _ _ _ _ v }))
+  takings = testing s _ _ (λ c. transfers _ _ _ _ (λ v. several toCaller (is-taker (s .seen .caller) (c .0)) v))
 
   givings : Grounded s (giving (s .seen) (s .owners) (s .own) a)
   unfolding giving Clear
-  givings =
-      testing s _ _ (λ c. transfers _ _ _ _ (λ v.
-      record { from = s .seen .caller; list = s .own; between = toNormal; caller = is-taker (s .seen .caller) (c .0); verdict = several-granted _ _ _ _ _ _ v }))
+  givings = testing s _ _ (λ c. transfers _ _ _ _ (λ v. several toNormal (is-taker (s .seen .caller) (c .0)) v))
 
   questions : (o : List ℕ) (p : Place) (world : ℕ) → Grounded s (owning o p world)
   unfolding owning
