@@ -15,10 +15,16 @@ use Rattle.cores.specs.Power.{powerOf, turnOf, put, off, pending, on, isOn, isP
 use Rattle.cores.specs.Cores.{WholePowers, WholeTurns, power, powered, turn, turned, power-same, power-other, powered-whole, turn-same, turn-other, turned-whole}
 use Rattle.cores.specs.declared.Power.{Power}
 use Rattle.cores.specs.declared.Turn.{Turn}
+use Rattle.pages.specs.Sizes.{lastWorld}
+use Rattle.pages.specs.Owners.{WholeOwners, owner}
+use Rattle.pages.specs.declared.Window.{Window}
+use Rattle.mapping.specs.declared.Mapping.{Mapping}
+use Rattle.transfers.specs.Kept.{Movable, move-granted, carried-whole, carried-from, carried-inside, carried-outside}
 use Rattle.mapping.specs.Lists.{WholeLists, held, holding, released, holding-whole, holding-other, released-whole, released-other}
 use Rattle.judging.specs.Names.{secure, normal, realm}
 use Rattle.judging.specs.Judge.{View, calledBy}
-use Rattle.judging.specs.Grounds.{Takes, Starts, Grounds, grounded}
+use Rattle.judging.specs.Grounds.{Takes, Between, Moves, Starts, Grounds, grounded}
+use Rattle.judging.specs.Grounds.Between.{toCaller, toNormal}
 use Rattle.judging.specs.declared.Answer.{Answer}
 use Rattle.judging.specs.declared.Answer.the-variants.{Version, PowerVersion, Done, On, Off, Pending, Owns, Leads, Count, Silent, No}
 use Rattle.judging.specs.declared.Deed.{Deed}
@@ -287,6 +293,33 @@ list-by Stop t caller world n = refl
 list-by (HandOver to) t caller world n = refl
 list-by Finish t caller world n = refl
 
+-- ---- owners
+-- the deeds that change owners
+abbrev pub Carries : Deed → Type 0
+Carries Nothing = ⊥
+Carries (Move start count to) = Unit {0}
+Carries (Map m) = ⊥
+Carries (Unmap virt size) = ⊥
+Carries (Start k a x) = ⊥
+Carries Stop = ⊥
+Carries (HandOver to) = ⊥
+Carries Finish = ⊥
+
+owners-by : (d : Deed) (w : Window) (o : List ℕ) → (Carries d → ⊥) → ownersBy d w o ≡ o
+owners-by Nothing w o n = refl
+owners-by (Move start count to) w o n = absurd (n tt)
+owners-by (Map m) w o n = refl
+owners-by (Unmap virt size) w o n = refl
+owners-by (Start k a x) w o n = refl
+owners-by Stop w o n = refl
+owners-by (HandOver to) w o n = refl
+owners-by Finish w o n = refl
+
+-- giver and taker are worlds
+between-worlds : {v : View} {from to : ℕ} {list : List Mapping} → Between v from to list → Takes (v .seen .caller) → (from ≤ lastWorld) × (to ≤ lastWorld)
+between-worlds {v} toCaller t = (omega arith, ⊎-elim (λ (y : v .seen .caller ≡ secure). omega arith) (λ (y : v .seen .caller ≡ realm). omega arith) t)
+between-worlds {v} toNormal t = (⊎-elim (λ (y : v .seen .caller ≡ secure). omega arith) (λ (y : v .seen .caller ≡ realm). omega arith) t, omega arith)
+
 module _ (s : State) (core : ℕ) (xs : List ℕ) where
   -- A call changes the power of no core but the one that it starts and, where it stops itself, its own.
   pub power-spared : (c : ℕ) → (Switches (deedIn s core xs) core c → ⊥) → power (after s core xs .powers) c ≡ power (s .powers) c
@@ -325,6 +358,32 @@ module _ (s : State) (core : ℕ) (xs : List ℕ) where
   pub list-spared : (world : ℕ) → (world ≡ callerOf s core → Lists (deedIn s core xs) → ⊥) → held (after s core xs .lists) world ≡ held (s .lists) world
   unfolding called applied
   list-spared world n = list-by (deedIn s core xs) (s .lists) (callerOf s core) world n
+
+  -- A call that is no granted transfer leaves every owner.
+  pub owners-spared : (Carries (deedIn s core xs) → ⊥) → after s core xs .owners ≡ s .owners
+  unfolding called applied
+  owners-spared n = owners-by (deedIn s core xs) (s .site .window) (s .owners) n
+
+  module _ (start count to : ℕ) (e : deedIn s core xs ≡ Move start count to) where
+    -- A transfer is granted between the caller and Normal, of pages that are the giver's and that the giver has not mapped.
+    pub moves : Moves (sight s core .view) start count to
+    moves = rw e at (grounded (sight s core) xs .stands)
+
+    pub movable : Movable (s .site .window) (s .owners) (moves .list) (moves .from) start count
+    movable = move-granted (s .site .window) (s .owners) (moves .list) (moves .from) start count (moves .verdict)
+
+    -- Each page of the run was the giver's and is the taker's.
+    pub moved-inside : (page : ℕ) → WholeOwners (s .owners) → movable .first ≤ page → page < movable .first + count
+        → (owner (s .owners) page ≡ moves .from) × (owner (after s core xs .owners) page ≡ to)
+    unfolding called applied
+    moved-inside page w h l =
+        (carried-from (s .site .window) (s .owners) start count to (moves .list) (moves .from) movable page h l,
+        rw e (carried-inside (s .site .window) (s .owners) start count to (moves .list) (moves .from) movable page w (between-worlds (moves .between) (moves .caller) .1) h l))
+
+    -- Every other page keeps its owner.
+    pub moved-outside : (page : ℕ) → (movable .first ≤ page → page < movable .first + count → ⊥) → owner (after s core xs .owners) page ≡ owner (s .owners) page
+    unfolding called applied
+    moved-outside page n = rw e (carried-outside (s .site .window) (s .owners) start count to (moves .list) (moves .from) movable page n)
 
 -- ---- an arrival
 -- the state with what an arrival leaves of the tables that it touches
@@ -387,3 +446,56 @@ module _ (s : State) (core : ℕ) where
 
     pub arrived-turn : WholeTurns (s .turns) → turn (afterArrival s core .turns) core ≡ turnOf normal false
     arrived-turn w = arrived-by (λ (q : State). turn (q .turns) core ≡ turnOf normal false) y (turn-same (s .turns) core (turnOf normal false) w h)
+
+-- ---- tables stay whole
+pub record WholeTables (s : State) : Type 0 where
+  pub owners-whole : WholeOwners (s .owners)
+  pub saved-whole : Whole (s .saved)
+  pub powers-whole : WholePowers (s .powers)
+  pub turns-whole : WholeTurns (s .turns)
+  pub lists-whole : WholeLists (s .lists)
+
+-- whatever the deed, carried out by any caller on any core
+deed-whole : (d : Deed) (s : State) (core caller : ℕ) (xs : List ℕ) → WholeTables s
+    → WholeTables (state (s .site) (s .ledger) (ownersBy d (s .site .window) (s .owners)) (savedBy d (s .saved) core caller xs)
+        (powersBy d (s .powers) core) (turnsBy d (s .turns) core) (listsBy d (s .lists) caller))
+deed-whole Nothing s core caller xs w = w
+deed-whole (Move start count to) s core caller xs w =
+    record { owners-whole = carried-whole _ _ start count to (w .owners-whole); saved-whole = w .saved-whole; powers-whole = w .powers-whole; turns-whole = w .turns-whole; lists-whole = w .lists-whole }
+deed-whole (Map m) s core caller xs w =
+    record { owners-whole = w .owners-whole; saved-whole = w .saved-whole; powers-whole = w .powers-whole; turns-whole = w .turns-whole; lists-whole = holding-whole _ caller m (w .lists-whole) }
+deed-whole (Unmap virt size) s core caller xs w =
+    record { owners-whole = w .owners-whole; saved-whole = w .saved-whole; powers-whole = w .powers-whole; turns-whole = w .turns-whole; lists-whole = released-whole _ caller virt size (w .lists-whole) }
+deed-whole (Start c a x) s core caller xs w =
+    record { owners-whole = w .owners-whole; saved-whole = w .saved-whole; powers-whole = powered-whole _ c _ (w .powers-whole); turns-whole = w .turns-whole; lists-whole = w .lists-whole }
+deed-whole Stop s core caller xs w =
+    record { owners-whole = w .owners-whole; saved-whole = w .saved-whole; powers-whole = powered-whole _ core _ (w .powers-whole); turns-whole = w .turns-whole; lists-whole = w .lists-whole }
+deed-whole (HandOver to) s core caller xs w =
+    record { owners-whole = w .owners-whole; saved-whole = kept-whole _ core to xs (w .saved-whole); powers-whole = w .powers-whole; turns-whole = turned-whole _ core _ (w .turns-whole); lists-whole = w .lists-whole }
+deed-whole Finish s core caller xs w =
+    record { owners-whole = w .owners-whole; saved-whole = kept-whole _ core normal _ (w .saved-whole); powers-whole = w .powers-whole; turns-whole = turned-whole _ core _ (w .turns-whole); lists-whole = w .lists-whole }
+
+-- A call leaves every table whole.
+pub called-whole : (s : State) (core : ℕ) (xs : List ℕ) → WholeTables s → WholeTables (after s core xs)
+unfolding called applied
+called-whole s core xs w =
+    deed-whole (deedIn s core xs) (state (s .site) (s .ledger) (s .owners) (answeredBy s core xs) (s .powers) (s .turns) (s .lists)) core (callerOf s core) xs
+    (record {
+      owners-whole = w .owners-whole;
+      saved-whole = answered-whole (s .saved) core (callerOf s core) xs (answerIn s core xs) (w .saved-whole);
+      powers-whole = w .powers-whole;
+      turns-whole = w .turns-whole;
+      lists-whole = w .lists-whole;
+    })
+
+-- And so does an arrival.
+pub arrival-whole : (s : State) (core : ℕ) → WholeTables s → WholeTables (afterArrival s core)
+arrival-whole s core w =
+    arrival-by s core WholeTables w
+    (λ y. record {
+      owners-whole = w .owners-whole;
+      saved-whole = kept-whole _ core normal _ (w .saved-whole);
+      powers-whole = powered-whole _ core _ (w .powers-whole);
+      turns-whole = turned-whole _ core _ (w .turns-whole);
+      lists-whole = w .lists-whole;
+    })
