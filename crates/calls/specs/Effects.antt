@@ -489,13 +489,15 @@ called-whole s core xs w =
     })
 
 -- And so does an arrival.
-pub arrival-whole : (s : State) (core : ℕ) → WholeTables s → WholeTables (afterArrival s core)
-arrival-whole s core w =
-    arrival-by s core WholeTables w
-    (λ y. record {
+pub come-whole : (s : State) (core : ℕ) → WholeTables s → WholeTables (comeIn s core)
+come-whole s core w =
+    record {
       owners-whole = w .owners-whole;
       saved-whole = kept-whole _ core normal _ (w .saved-whole);
       powers-whole = powered-whole _ core _ (w .powers-whole);
       turns-whole = turned-whole _ core _ (w .turns-whole);
       lists-whole = w .lists-whole;
-    })
+    }
+
+pub arrival-whole : (s : State) (core : ℕ) → WholeTables s → WholeTables (afterArrival s core)
+arrival-whole s core w = arrival-by s core WholeTables w (λ y. come-whole s core w)
