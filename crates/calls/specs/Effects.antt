@@ -2,25 +2,23 @@
 use mathlib.Core.Path.{_≡_, refl, sym, ap, subst, _∙_}
 use mathlib.Core.Bool.{Bool, true, false}
 use mathlib.Core.List.{List, [], _∷_}
-use mathlib.Core.Logic.{_⊎_, inl, inr, ⊎-elim}
-use Prim.Native.Nat.{ℕ, zero, suc, _+_, _-_, _^_, _≤_, _<_}
+use mathlib.Core.Logic.{⊎-elim}
+use Prim.Native.Nat.{ℕ, _+_, _-_, _^_, _≤_, _<_}
 use native.Mathlib.Omega.{arith}
 use lib.ListN.{length, getD, take, drop, length-take, length-drop}
 use lib.Seq.{getD-take, getD-drop}
-use Rattle.rules.specs.Choice.{chosen, pick-yes, pick-no, either}
+use Rattle.rules.specs.Choice.{pick-yes, pick-no, either}
 use Rattle.rules.specs.declared.Reason.{Reason}
 use Rattle.identifiers.specs.declared.Parts.{Parts}
 use Rattle.registers.specs.Registers.{Whole, saved, kept, kept-whole, kept-at, kept-past, kept-other}
-use Rattle.cores.specs.Power.{powerOf, turnOf, put, off, pending, on, isOn, isPending, started, stopped, arrived, started-off, stopped-on, arrived-pending, handed, finished, entered}
+use Rattle.cores.specs.Power.{powerOf, turnOf, put, off, pending, on, isOn, isPending, started, stopped, started-off, stopped-on, arrived-pending, handed, finished}
 use Rattle.cores.specs.Cores.{WholePowers, WholeTurns, power, powered, turn, turned, power-same, power-other, powered-whole, turn-same, turn-other, turned-whole}
-use Rattle.cores.specs.declared.Power.{Power}
-use Rattle.cores.specs.declared.Turn.{Turn}
 use Rattle.pages.specs.Sizes.{lastWorld}
 use Rattle.pages.specs.Owners.{WholeOwners, owner}
 use Rattle.pages.specs.declared.Window.{Window}
 use Rattle.mapping.specs.declared.Mapping.{Mapping}
 use Rattle.transfers.specs.Kept.{Movable, move-granted, carried-whole, carried-from, carried-inside, carried-outside}
-use Rattle.mapping.specs.Lists.{WholeLists, held, holding, released, holding-whole, holding-other, released-whole, released-other}
+use Rattle.mapping.specs.Lists.{WholeLists, held, holding-whole, holding-other, released-whole, released-other}
 use Rattle.judging.specs.Names.{secure, normal, realm}
 use Rattle.judging.specs.Judge.{View, calledBy}
 use Rattle.judging.specs.Grounds.{Takes, Between, Moves, Starts, Grounds, grounded}
@@ -29,7 +27,6 @@ use Rattle.judging.specs.declared.Answer.{Answer}
 use Rattle.judging.specs.declared.Answer.the-variants.{Version, PowerVersion, Done, On, Off, Pending, Owns, Leads, Count, Silent, No}
 use Rattle.judging.specs.declared.Deed.{Deed}
 use Rattle.judging.specs.declared.Deed.the-variants.{Nothing, Move, Map, Unmap, Start, Stop, HandOver, Finish}
-use Rattle.judging.specs.declared.Judged.{Judged}
 use Rattle.calls.specs.Answers.{minus, written}
 use Rattle.calls.specs.Step.{State, state, sight, callerOf, judgedIn, ownersBy, savedBy, powersBy, turnsBy, listsBy, answeredIn, applied, called, Seat, startNumbers, arrivedIn, arrives}
 
@@ -62,19 +59,19 @@ afterArrival s core = arrives s core .0
 -- A deed alone decides what becomes of each table.
 pub stepped-by : (s : State) (core : ℕ) (xs : List ℕ) (d : Deed) → deedIn s core xs ≡ d
     → after s core xs ≡ state (s .site) (s .ledger)
-        (ownersBy d (s .site .window) (s .owners))
-        (savedBy d (answeredBy s core xs) core (callerOf s core) xs)
-        (powersBy d (s .powers) core)
-        (turnsBy d (s .turns) core)
-        (listsBy d (s .lists) (callerOf s core))
+    (ownersBy d (s .site .window) (s .owners))
+    (savedBy d (answeredBy s core xs) core (callerOf s core) xs)
+    (powersBy d (s .powers) core)
+    (turnsBy d (s .turns) core)
+    (listsBy d (s .lists) (callerOf s core))
 unfolding called applied
 stepped-by s core xs d e = rw e
 
 -- A refused call leaves every table but the caller's numbers: the frame's eight, and over them x0 alone, the refusal's number.
 pub refused : (s : State) (core : ℕ) (xs : List ℕ) (r : Reason) → answerIn s core xs ≡ No r
     → after s core xs ≡ state (s .site) (s .ledger) (s .owners)
-        (kept (kept (s .saved) core (callerOf s core) xs) core (callerOf s core) ((2 ^ 64 - minus r) ∷ []))
-        (s .powers) (s .turns) (s .lists)
+    (kept (kept (s .saved) core (callerOf s core) xs) core (callerOf s core) ((2 ^ 64 - minus r) ∷ []))
+    (s .powers) (s .turns) (s .lists)
 refused s core xs r e = stepped-by s core xs Nothing (grounded (sight s core) xs .quiet r e) ∙ rw e
 
 -- ---- what set-up fixed
@@ -376,9 +373,10 @@ module _ (s : State) (core : ℕ) (xs : List ℕ) where
     pub moved-inside : (page : ℕ) → WholeOwners (s .owners) → movable .first ≤ page → page < movable .first + count
         → (owner (s .owners) page ≡ moves .from) × (owner (after s core xs .owners) page ≡ to)
     unfolding called applied
-    moved-inside page w h l =
-        (carried-from (s .site .window) (s .owners) start count to (moves .list) (moves .from) movable page h l,
-        rw e (carried-inside (s .site .window) (s .owners) start count to (moves .list) (moves .from) movable page w (between-worlds (moves .between) (moves .caller) .1) h l))
+    moved-inside page w h l = (
+      carried-from (s .site .window) (s .owners) start count to (moves .list) (moves .from) movable page h l,
+      rw e (carried-inside (s .site .window) (s .owners) start count to (moves .list) (moves .from) movable page w (between-worlds (moves .between) (moves .caller) .1) h l),
+    )
 
     -- Every other page keeps its owner.
     pub moved-outside : (page : ℕ) → (movable .first ≤ page → page < movable .first + count → ⊥) → owner (after s core xs .owners) page ≡ owner (s .owners) page
@@ -458,7 +456,7 @@ pub record WholeTables (s : State) : Type 0 where
 -- whatever the deed, carried out by any caller on any core
 deed-whole : (d : Deed) (s : State) (core caller : ℕ) (xs : List ℕ) → WholeTables s
     → WholeTables (state (s .site) (s .ledger) (ownersBy d (s .site .window) (s .owners)) (savedBy d (s .saved) core caller xs)
-        (powersBy d (s .powers) core) (turnsBy d (s .turns) core) (listsBy d (s .lists) caller))
+    (powersBy d (s .powers) core) (turnsBy d (s .turns) core) (listsBy d (s .lists) caller))
 deed-whole Nothing s core caller xs w = w
 deed-whole (Move start count to) s core caller xs w =
     record { owners-whole = carried-whole _ _ start count to (w .owners-whole); saved-whole = w .saved-whole; powers-whole = w .powers-whole; turns-whole = w .turns-whole; lists-whole = w .lists-whole }

@@ -1,35 +1,34 @@
 -- What holds of the state at every time after set-up, and that every call and every arrival keeps it.
-use mathlib.Core.Path.{_≡_, refl, sym, ap, subst, _∙_}
-use mathlib.Core.Bool.{Bool, true, false}
-use mathlib.Core.List.{List, [], _∷_}
-use mathlib.Core.Logic.{_⊎_, inl, inr, ⊎-elim}
+use mathlib.Core.Path.{_≡_, refl, sym, _∙_}
+use mathlib.Core.Bool.{true, false}
+use mathlib.Core.List.{List}
+use mathlib.Core.Logic.{inl, inr, ⊎-elim}
 use Prim.Native.Nat.{ℕ, _≤_, _<_}
 use native.Mathlib.Omega.{arith}
 use lib.Dec.{eqb, ltb}
 use borrow.Author.Tests.{eqb-true, eqb-false, ltb-true, ltb-false}
 use Rattle.rules.specs.Choice.{either, yes-or-no}
 use Rattle.cores.specs.Power.{turnOf, put, off, pending, on, isOn, isPending, started, stopped, handed, finished}
-use Rattle.cores.specs.Cores.{power, powered, turn, turned, power-same, power-other, turn-same, turn-other}
+use Rattle.registers.specs.Registers.{zeros, zeros-whole}
+use Rattle.cores.specs.Cores.{power, turn, power-other, turn-same, turn-other, firstPowers, firstTurns, first-powers-whole, first-power-other, first-turns-whole, first-turn}
 use Rattle.cores.specs.declared.Power.{Power}
 use Rattle.cores.specs.declared.Turn.{Turn}
 use Rattle.pages.specs.Sizes.{lastWorld}
 use Rattle.pages.specs.Window.{acceptable}
-use Rattle.pages.specs.Owners.{owner}
-use Rattle.pages.specs.declared.Window.{Window}
-use Rattle.mapping.specs.Lists.{held, holding, holding-other, holding-inserts, released-other, released-takes}
-use Rattle.mapping.specs.Sound.{Formed, Sound, granted-room, granted-formed, granted-keeps, without-keeps}
+use Rattle.pages.specs.Owners.{WholeOwners, owner}
+use Rattle.mapping.specs.Lists.{unmapped, unmapped-whole, held, held-unmapped, holding, holding-other, holding-inserts, released-other, released-takes}
+use Rattle.mapping.specs.Sound.{Sound, sound-none, granted-room, granted-formed, granted-keeps, without-keeps}
 use Rattle.mapping.specs.declared.Mapping.{Mapping}
-use Rattle.mapping.specs.declared.Verdict.the-variants as Verdict
-use Rattle.mapping.specs.Mapping.{mapVerdict}
 use Rattle.transfers.specs.Transfer.{moveVerdict, carried}
 use Rattle.transfers.specs.Kept.{carried-keeps, carried-worlds}
 use Rattle.transfers.specs.declared.Verdict.the-variants as Moving
 use Rattle.judging.specs.Names.{secure, normal, realm}
-use Rattle.judging.specs.Grounds.{Takes, Calls, Between, Moves, Maps, Unmaps, Starts, Grounds, grounded}
+use Rattle.judging.specs.Grounds.{Takes, Calls, Between, Grounds, grounded}
 use Rattle.judging.specs.Grounds.Between.{toCaller, toNormal}
 use Rattle.judging.specs.declared.Deed.{Deed}
 use Rattle.judging.specs.declared.Deed.the-variants.{Nothing, Move, Map, Unmap, Start, Stop, HandOver, Finish}
-use Rattle.calls.specs.Step.{State, state, sight, callerOf, ownersBy, savedBy, powersBy, turnsBy, listsBy, applied, called, arrives}
+use Rattle.calls.specs.Step.{State, state, sight, callerOf, ownersBy, powersBy, turnsBy, listsBy, applied, called}
+use Rattle.calls.specs.declared.Site.{Site}
 use Rattle.calls.specs.Effects.{deedIn, after, afterArrival, comeIn, arrival-by, WholeTables, called-whole, come-whole}
 
 -- what a core runs, beside its power: Normal with nothing open, or Secure or Realm, where the core is ON and a hand-over is open
@@ -214,3 +213,25 @@ module _ (s : State) (r : Right s) (core : ℕ) where
         seated = come-seated;
         absent = come-absent y;
       })
+
+-- ---- the start
+-- The state that set-up leaves is right: no number saved, core 0 ON in Normal, the others OFF, and no mapping.
+pub first-right : (w : Site) (l o : List ℕ) → acceptable (w .window) ≡ true → 0 < w .cores → w .cores ≤ 8 → WholeOwners o → ((page : ℕ) → owner o page ≤ lastWorld)
+    → Right (state w l o zeros firstPowers firstTurns unmapped)
+first-right w l o ok some most h f =
+    record {
+      window = ok;
+      some-cores = some;
+      most-cores = most;
+      whole = record {
+        owners-whole = h;
+        saved-whole = zeros-whole;
+        powers-whole = first-powers-whole;
+        turns-whole = first-turns-whole;
+        lists-whole = unmapped-whole;
+      };
+      worlds = f;
+      sound = λ world. rw (held-unmapped world) (sound-none (w .window) o world);
+      seated = λ core k. rw (first-turn core k) (normal-seated _);
+      absent = λ core k. rw (first-power-other core (λ e. omega arith));
+    }

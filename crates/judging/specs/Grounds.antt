@@ -1,11 +1,11 @@
 -- What a granted deed stands on, whatever the call: one law over every judgement, by which the theorems over runs go.
-use mathlib.Core.Path.{_≡_, refl, sym, ap, _∙_, subst}
+use mathlib.Core.Path.{_≡_, refl, sym, subst}
 use mathlib.Core.Bool.{Bool, true, false, not, _||_}
-use mathlib.Core.List.{List, [], _∷_}
+use mathlib.Core.List.{List}
 use mathlib.Core.Logic.{_⊎_, inl, inr}
 use Prim.Native.Nat.{ℕ, _<_}
 use native.Mathlib.Omega.{arith}
-use lib.Dec.{eqb, leb}
+use lib.Dec.{eqb}
 use borrow.Author.Tests.{eqb-true, leb-false, not-false}
 use Rattle.rules.specs.Choice.{chosen, either, yes-or-no}
 use Rattle.rules.specs.Tests.{Test, sieved, Clear}
@@ -33,7 +33,6 @@ use Rattle.judging.specs.declared.Answer.the-variants as Answer
 use Rattle.judging.specs.declared.Deed.{Deed}
 use Rattle.judging.specs.declared.Deed.the-variants.{Nothing, Move, Map, Unmap, Start, Stop, HandOver, Finish}
 use Rattle.judging.specs.declared.Judged.{Judged}
-use Rattle.judging.specs.declared.Seen.{Seen}
 use Rattle.judging.specs.declared.Args.{Args}
 use Rattle.judging.specs.Judge.{View, Sight, denied, granted, tested, oneOf, takers, callers, goodStart, wanted, affirmed, featuring, architecture, starting, stating, stopping, versioning, powering, moving, granuleIn, granuleOut, taking, giving, owning, mapping, unmapping, leading, board, handing, finishing, ranged, realms, standard, trusted, byHandler, found, judgedBy, judged}
 
