@@ -1,8 +1,7 @@
 -- The paper's number of each refusal, and the results that each answer writes.
 use mathlib.Core.Bool.{Bool, true, false}
 use mathlib.Core.List.{List, [], _∷_}
-use Prim.Native.Nat.{ℕ, _-_, _≤_}
-use lib.Dec.{lit≤}
+use Prim.Native.Nat.{ℕ, _-_}
 use Rattle.identifiers.specs.declared.Parts.{Parts}
 use Rattle.rules.specs.declared.Reason.{Reason}
 use Rattle.rules.specs.declared.Reason.the-variants.{Unserved, Invalid, WrongOwner, NotOpen, AlreadyOn, AlreadyPending, NoPages, Mapped, BadAddress, Full, Overlap, NotOwned, Nowhere, Malformed, NoMapping, Beyond}
@@ -28,7 +27,7 @@ minus Malformed = 22
 minus NoMapping = 22
 minus Beyond = 34
 
--- -n, as a call of these parts has it written
+-- -n, as a call of these parts has it written: in 64 bits, whatever its width
 abbrev pub negative : Parts → ℕ → ℕ
 negative p n = 18446744073709551616 - n
 

@@ -1,12 +1,12 @@
 -- How the code's branches meet the definitions of Answers and Step.
-use mathlib.Core.Path.{_≡_, refl, sym, ap, _∙_}
+use mathlib.Core.Path.{_≡_, sym, ap, _∙_}
 use mathlib.Core.Bool.{Bool, true, false, not}
 use mathlib.Core.List.{List, [], _∷_}
-use Prim.Native.Nat.{ℕ, _-_, _≤_}
+use Prim.Native.Nat.{ℕ, _≤_}
 use lib.Dec.{lit≤}
 use lib.ListN.{take, drop}
 use borrow.Author.Tests.{not-true, not-false}
-use Rattle.rules.specs.Choice.{pick, picked, passed, pick-yes, pick-no}
+use Rattle.rules.specs.Choice.{pick-yes, pick-no}
 use Rattle.rules.specs.declared.Reason.{Reason}
 use Rattle.rules.specs.declared.Reason.the-variants.{Unserved, Invalid, WrongOwner, NotOpen, AlreadyOn, AlreadyPending, NoPages, Mapped, BadAddress, Full, Overlap, NotOwned, Nowhere, Malformed, NoMapping, Beyond}
 use Rattle.identifiers.specs.Identifier.{identifierOf, parts}
@@ -23,15 +23,15 @@ use Rattle.mapping.specs.Lists.{held, holding, released}
 use Rattle.mapping.specs.declared.Mapping.{Mapping}
 use Rattle.transfers.specs.Transfer.{carried}
 use Rattle.judging.specs.Names.{normal}
-use Rattle.judging.specs.Judge.{viewed, sighted, judged, calledBy}
+use Rattle.judging.specs.Judge.{viewed, sighted, judged}
 use Rattle.judging.specs.declared.Answer.{Answer}
 use Rattle.judging.specs.declared.Answer.the-variants.{Owns, Silent, No}
 use Rattle.judging.specs.declared.Deed.{Deed}
-use Rattle.judging.specs.declared.Deed.the-variants.{Nothing, Move, Map, Unmap, Start, Stop, HandOver, Finish}
+use Rattle.judging.specs.declared.Deed.the-variants.{Move, Map, Unmap, Start, Stop, HandOver, Finish}
 use Rattle.judging.specs.declared.Judged.{Judged}
 use Rattle.judging.specs.declared.Seen.{Seen}
 use Rattle.calls.specs.Answers.{minus, negative, bit, written}
-use Rattle.calls.specs.Step.{state, seenBy, ownersBy, savedBy, powersBy, turnsBy, listsBy, answeredIn, applied, called, Seat, seat, startNumbers, arrivedIn}
+use Rattle.calls.specs.Step.{state, seenBy, ownersBy, savedBy, powersBy, turnsBy, listsBy, answeredIn, applied, called, Seat, seat, arrivedIn}
 use Rattle.calls.specs.declared.Site.{Site}
 use Rattle.calls.specs.declared.Made.{Made}
 

@@ -1,10 +1,9 @@
 -- One step of the whole state: a call is judged, answered and carried out, or a pending core arrives.
-use mathlib.Core.Path.{_≡_, refl, sym, ap, _∙_}
 use mathlib.Core.Bool.{Bool, true, false}
 use mathlib.Core.List.{List, [], _∷_}
 use Prim.Native.Nat.{ℕ}
-use lib.ListN.{getD, take, drop}
-use Rattle.rules.specs.Choice.{pick, picked, passed}
+use lib.ListN.{take, drop}
+use Rattle.rules.specs.Choice.{pick}
 use Rattle.registers.specs.Registers.{kept}
 use Rattle.cores.specs.Power.{started, stopped, arrived, isPending, handed, finished, entered}
 use Rattle.cores.specs.Cores.{power, powered, turn, turned}
@@ -63,7 +62,7 @@ ownersBy Stop w o = o
 ownersBy (HandOver to) w o = o
 ownersBy Finish w o = o
 
--- how many numbers a finish by this world returns to Normal
+-- how many numbers a finish by this world returns to Normal: four, whichever it is
 abbrev pub returned : ℕ → ℕ
 returned world = 4
 

@@ -33,13 +33,14 @@ fn minus_of(r: Reason) -> u64
     }
 }
 
-// A refusal as a call of these parts has it written.
+// A refusal as a call of these parts has it written: in 64 bits, whatever its width.
 fn negative_of(p: Parts, r: Reason) -> u64
     ensures { λ n. ⌜ n ≡ negative p (minus r) ⌝ }
 {
     0xFFFF_FFFF_FFFF_FFFF - minus_of(r) + 1
 }
 
+// A truth value as the paper's 1 or 0.
 fn bit_of(is: bool) -> u64
     ensures { λ n. ⌜ n ≡ bit is ⌝ }
 {
@@ -49,6 +50,7 @@ fn bit_of(is: bool) -> u64
     0
 }
 
+// Writes the results that an answer lists, from x0 on; the others keep the caller's values.
 fn write_answer(t: &mut Saved, core: u64, world: u64, p: Parts, a: Answer)
     ensures { λ _. ⌜ now (t .exit) ≡ kept (now (t .entry)) core world (written p a) ⌝ }
 {

@@ -10,6 +10,7 @@ use pages::Owners;
 use pages::Window;
 use registers::Saved;
 
+// Only a move touches the owners.
 pub fn do_owners(t: &mut Owners, w: Window, d: Deed)
     ensures { λ _. ⌜ now (t .exit) ≡ ownersBy d w (now (t .entry)) ⌝ }
 {
@@ -29,6 +30,7 @@ pub fn do_owners(t: &mut Owners, w: Window, d: Deed)
     }
 }
 
+// A hand-over gives the receiver all eight numbers; a finish gives Normal's x0 to x3 the finisher's x1 to x4.
 pub fn do_saved(t: &mut Saved, core: u64, caller: u64, x: &[u64; 8], d: Deed)
     ensures { λ _. ⌜ now (t .exit) ≡ savedBy d (now (t .entry)) core caller (now (x .entry)) ⌝ }
 {
@@ -53,6 +55,7 @@ pub fn do_saved(t: &mut Saved, core: u64, caller: u64, x: &[u64; 8], d: Deed)
     }
 }
 
+// A start makes its target pending; a stop turns the calling core OFF.
 pub fn do_powers(t: &mut Powers, core: u64, d: Deed)
     ensures { λ _. ⌜ now (t .exit) ≡ powersBy d (now (t .entry)) core ⌝ }
 {
@@ -82,6 +85,7 @@ pub fn do_powers(t: &mut Powers, core: u64, d: Deed)
     }
 }
 
+// A hand-over and a finish change the world that runs on the core.
 pub fn do_turns(t: &mut Turns, core: u64, d: Deed)
     ensures { λ _. ⌜ now (t .exit) ≡ turnsBy d (now (t .entry)) core ⌝ }
 {
@@ -111,6 +115,7 @@ pub fn do_turns(t: &mut Turns, core: u64, d: Deed)
     }
 }
 
+// A mapping goes into the caller's list, and out of it.
 pub fn do_lists(t: &mut Lists, caller: u64, d: Deed)
     ensures { λ _. ⌜ now (t .exit) ≡ listsBy d (now (t .entry)) caller ⌝ }
 {

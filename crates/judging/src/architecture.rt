@@ -12,7 +12,7 @@ use super::refuse;
 use identifiers::Identifier;
 use rules::Reason;
 
-// A question whether a call is known.
+// Answers a question whether a call is known: 0, or -1.
 pub fn affirm(is: bool) -> Judged
     ensures { λ r. ⌜ r ≡ affirmed is ⌝ }
 {
@@ -29,6 +29,7 @@ pub fn asked_key(a: Args) -> u32
     Identifier::of(a.x1).matched()
 }
 
+// The architecture's own two calls.
 fn is_known(key: u32) -> bool
     ensures { λ r. ⌜ r ≡ oneOf key architectureCalls ⌝ }
 {
@@ -46,6 +47,7 @@ fn known_features(a: Args) -> Judged
     affirm(is_known(asked_key(a)))
 }
 
+// A call that reaches handler 0. Any world may make it.
 pub fn architecture_call(a: Args, key: u32) -> Judged
     ensures { λ r. ⌜ r ≡ architecture a key ⌝ }
 {

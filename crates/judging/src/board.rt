@@ -39,6 +39,7 @@ fn own_page(v: Seen, owners: &Owners, a: Args) -> Judged
     )
 }
 
+// Maps physical x1 at virtual x2, size x3, attributes x4.
 fn map_pages(v: Seen, owners: &Owners, lists: &Lists, a: Args) -> Judged
     ensures { λ r. ⌜ r ≡ mappingBy (mapVerdict (held (now (lists .entry)) (v .caller)) (now (owners .entry)) (v .window) (v .caller) (wanted a)) (wanted a) ⌝ }
 {
@@ -56,6 +57,7 @@ fn map_pages(v: Seen, owners: &Owners, lists: &Lists, a: Args) -> Judged
     }
 }
 
+// Unmaps what the caller holds with exactly this start and size.
 fn unmap_pages(v: Seen, lists: &Lists, a: Args) -> Judged
     ensures { λ r. ⌜ r ≡ unmapping (held (now (lists .entry)) (v .caller)) a ⌝ }
 {
@@ -71,7 +73,7 @@ fn unmap_pages(v: Seen, lists: &Lists, a: Args) -> Judged
     )
 }
 
-// Where an address leads.
+// Where an address of the caller leads.
 fn where_leads(v: Seen, lists: &Lists, a: Args) -> Judged
     ensures { λ r. ⌜ r ≡ leading (leadOf (held (now (lists .entry)) (v .caller)) (a .x1)) ⌝ }
 {
@@ -81,12 +83,14 @@ fn where_leads(v: Seen, lists: &Lists, a: Args) -> Judged
     }
 }
 
+// How many cores are ON.
 fn count_on(powers: &Powers) -> Judged
     ensures { λ r. ⌜ r ≡ granted (Answer.Count (onCount (now (powers .entry)))) Deed.Nothing ⌝ }
 {
     grant(Answer::Count(cores::on_count(powers)), Deed::Nothing)
 }
 
+// A call that reaches handler 1.
 pub fn board_call(
     v: Seen,
     powers: &Powers,

@@ -29,7 +29,9 @@ pub enum Answer {
     Version,
     // the version of core power
     PowerVersion,
+    // granted, with nothing to tell
     Done,
+    // the state of a core
     On,
     Off,
     Pending,
@@ -41,21 +43,26 @@ pub enum Answer {
     Count(u64),
     // nothing is written for the caller
     Silent,
+    // refused, for the first reason that the paper's order finds
     No(Reason),
 }
 
 // What is to be done for a call.
 pub enum Deed {
     Nothing,
+    // pages go to another owner
     Move { start: u64, count: u64, to: u64 },
     Map(Mapping),
     Unmap { virt: u64, size: u64 },
     Start { core: u64, start: u64, context: u64 },
+    // the calling core goes OFF
     Stop,
+    // the world that receives the core
     HandOver(u64),
     Finish,
 }
 
+// A judgement: the answer, and the deed that goes with it.
 pub struct Judged {
     pub answer: Answer,
     pub deed: Deed,
@@ -64,6 +71,7 @@ pub struct Judged {
 // What a judgement sees of the caller and its board.
 pub struct Seen {
     pub caller: u64,
+    // whether a hand-over is open on the core
     pub is_open: bool,
     pub cores: u64,
     pub window: Window,
@@ -77,6 +85,7 @@ pub struct Args {
     pub x4: u64,
 }
 
+// A refusal changes nothing.
 pub fn refuse(r: Reason) -> Judged
     ensures { λ j. ⌜ j ≡ denied r ⌝ }
 {
@@ -86,6 +95,7 @@ pub fn refuse(r: Reason) -> Judged
     }
 }
 
+// A call is granted: its answer, and what is to be done for it.
 pub fn grant(a: Answer, d: Deed) -> Judged
     ensures { λ j. ⌜ j ≡ granted a d ⌝ }
 {

@@ -44,6 +44,7 @@ fn pending_core(powers: &Powers, core: u64) -> bool
     cores::power_of(powers, core).is_pending()
 }
 
+// Starts core x1 at x2 with context x3.
 pub fn start_core(v: Seen, powers: &Powers, owners: &Owners, a: Args) -> Judged
     ensures { λ r. ⌜ r ≡ starting v (now (powers .entry)) (now (owners .entry)) a ⌝ }
 {
@@ -95,6 +96,7 @@ fn stated(powers: &Powers, core: u64) -> Judged
     grant(state_of(powers, core), Deed::Nothing)
 }
 
+// The state of core x1. Level x2 can only be 0, the core itself.
 pub fn state_core(v: Seen, powers: &Powers, a: Args) -> Judged
     ensures { λ r. ⌜ r ≡ stating v (now (powers .entry)) a ⌝ }
 {
@@ -112,6 +114,7 @@ pub fn state_core(v: Seen, powers: &Powers, a: Args) -> Judged
     stated(powers, core)
 }
 
+// The calling core goes OFF; its registers stay.
 pub fn stop_core(v: Seen) -> Judged
     ensures { λ r. ⌜ r ≡ stopping v ⌝ }
 {
@@ -121,6 +124,7 @@ pub fn stop_core(v: Seen) -> Judged
     grant(Answer::Silent, Deed::Stop)
 }
 
+// The version of core power.
 pub fn power_version(v: Seen) -> Judged
     ensures { λ r. ⌜ r ≡ versioning v ⌝ }
 {
@@ -130,6 +134,7 @@ pub fn power_version(v: Seen) -> Judged
     grant(Answer::PowerVersion, Deed::Nothing)
 }
 
+// The calls of core power, and the version of the architecture.
 fn is_known(key: u32) -> bool
     ensures { λ r. ⌜ r ≡ oneOf key powerCalls ⌝ }
 {
@@ -152,6 +157,7 @@ fn known_power(a: Args) -> Judged
     affirm(is_known(asked_key(a)))
 }
 
+// Whether a call of core power is known.
 pub fn power_features(v: Seen, a: Args) -> Judged
     ensures { λ r. ⌜ r ≡ powering v a ⌝ }
 {

@@ -35,6 +35,7 @@ fn ranged_call(v: Seen, key: u32) -> Judged
     hand_over(names::REALM, v)
 }
 
+// Single pages, and Realm's hand-over and finish.
 fn realm_call(v: Seen, owners: &Owners, lists: &Lists, a: Args, key: u32) -> Judged
     ensures { λ r. ⌜ r ≡ realms v (now (owners .entry)) (held (now (lists .entry)) (v .caller)) (held (now (lists .entry)) normal) a key ⌝ }
 {
@@ -46,6 +47,7 @@ fn realm_call(v: Seen, owners: &Owners, lists: &Lists, a: Args, key: u32) -> Jud
     }
 }
 
+// A call that reaches handler 2.
 pub fn standard_call(
     v: Seen,
     powers: &Powers,

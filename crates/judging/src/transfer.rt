@@ -1,7 +1,7 @@
 // Page transfers between Normal and the world that calls.
 ghost use mathlib.Core.Path.{_≡_};
 ghost use Rattle.mapping.specs.Lists.{held};
-ghost use Rattle.judging.specs.Names.{normal, realm};
+ghost use Rattle.judging.specs.Names.{normal};
 ghost use Rattle.judging.specs.Judge.{oneOf, takers, moving, granuleIn, granuleOut, taking, giving};
 use super::Answer;
 use super::Args;

@@ -33,6 +33,7 @@ pub fn finish(from: u64, v: Seen) -> Judged
     grant(Answer::Silent, Deed::Finish)
 }
 
+// A call that reaches handler 3: the finish by its one identifier, a hand-over by any other.
 pub fn trusted_call(v: Seen, key: u32) -> Judged
     ensures { λ r. ⌜ r ≡ trusted v key ⌝ }
 {

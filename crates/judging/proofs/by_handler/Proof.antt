@@ -1,4 +1,4 @@
--- Each return of `by_handler` stands where a test of `byHandler` led to it, in the same order.
+-- Each arm of `by_handler` is reached by the handler that `byHandler` picks it for.
 use borrow.Author.Needs.{needs}
 use Rattle.judging.specs.Judge.{byHandler}
 use Rattle.rules.specs.Tests.{contraries}

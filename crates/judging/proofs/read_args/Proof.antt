@@ -1,4 +1,4 @@
--- Each return of `read_args` stands where a test of `argsOf` led to it, in the same order.
+-- Each argument is what the promise of `argument` says of its number, as `argsOf` lists them.
 use borrow.Author.Needs.{needs}
 use Rattle.judging.specs.Judge.{argsOf}
 use Rattle.judging.proofs.read_args.Statement.{statement}

@@ -1,4 +1,4 @@
--- Each return of `architecture_call` stands where a test of `architecture` led to it, in the same order.
+-- Each arm of `architecture_call` is reached by the key that `architecture` picks it for.
 use borrow.Author.Needs.{needs}
 use Rattle.judging.specs.Judge.{architecture}
 use Rattle.rules.specs.Tests.{contraries}

@@ -1,4 +1,4 @@
--- Each return of `known_features` stands where a test of `featuring` led to it, in the same order.
+-- What `known_features` returns is what its callees promise, put together.
 use borrow.Author.Needs.{needs}
 use Rattle.judging.specs.Judge.{featuring}
 use Rattle.judging.proofs.architecture.known_features.Statement.{statement}

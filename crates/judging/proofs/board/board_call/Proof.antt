@@ -1,4 +1,4 @@
--- Each return of `board_call` stands where a test of `board` led to it, in the same order.
+-- Each arm of `board_call` is reached by the key that `board` picks it for.
 use borrow.Author.Needs.{needs}
 use Rattle.judging.specs.Judge.{board}
 use Rattle.rules.specs.Tests.{contraries}

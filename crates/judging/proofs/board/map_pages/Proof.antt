@@ -1,4 +1,4 @@
--- Each return of `map_pages` stands where a test of `mapping` led to it, in the same order.
+-- In each arm of `map_pages` the verdict is known, and with it what `mapping` makes of it.
 use borrow.Author.Needs.{needs}
 use Rattle.judging.specs.Judge.{mapping}
 use Rattle.judging.specs.Laws.{maps}

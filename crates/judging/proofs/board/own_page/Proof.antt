@@ -1,4 +1,4 @@
--- Each return of `own_page` stands where a test of `owning` led to it, in the same order.
+-- The place is a page or outside, and `owning` answers each as `own_page` does.
 use borrow.Author.Needs.{needs}
 use Rattle.judging.specs.Judge.{owning}
 use Rattle.judging.specs.Laws.{owns}

@@ -1,4 +1,4 @@
--- Each return of `where_leads` stands where a test of `leading` led to it, in the same order.
+-- In each arm of `where_leads` it is known where the address leads, and with it what `leading` makes of it.
 use borrow.Author.Needs.{needs}
 use Rattle.judging.specs.Judge.{leading}
 use Rattle.judging.specs.Laws.{leads}

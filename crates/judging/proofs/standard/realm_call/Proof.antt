@@ -1,4 +1,4 @@
--- Each return of `realm_call` stands where a test of `realms` led to it, in the same order.
+-- Each arm of `realm_call` is reached by the key that `realms` picks it for.
 use borrow.Author.Needs.{needs}
 use Rattle.judging.specs.Judge.{realms}
 use Rattle.rules.specs.Tests.{contraries}

@@ -1,4 +1,4 @@
--- Each return of `standard_call` stands where a test of `standard` led to it, in the same order.
+-- Each arm of `standard_call` is reached by the key that `standard` picks it for.
 use borrow.Author.Needs.{needs}
 use Rattle.judging.specs.Judge.{standard}
 use Rattle.rules.specs.Tests.{contraries}

@@ -1,4 +1,4 @@
--- Each return of `moved` stands where a test of `moving` led to it, in the same order.
+-- In each arm of `moved` the verdict is known, and with it what `moving` makes of it.
 use borrow.Author.Needs.{needs}
 use Rattle.judging.specs.Judge.{moving}
 use Rattle.judging.proofs.transfer.moved.Statement.{statement}
