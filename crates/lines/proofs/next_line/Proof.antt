@@ -1,0 +1,79 @@
+-- `lines::next_line` meets its promise: 132 digits have no newline among them, so the one behind them ends the line; all else is searched for.
+use mathlib.Core.Path.{refl}
+use borrow.Author.Needs.{needs}
+use Rattle.lines.specs.Lines.{next-past, next-call, next-scan}
+use Rattle.lines.proofs.next_line.Statement.{statement}
+use Rattle.lines.proofs.next_line.Tie as tie
+
+returns : tie.Need-returns
+returns c = search (next-past, needs)
+
+sub-if2 : tie.Need-sub-if2
+sub-if2 c = search needs
+
+scan-requires : tie.Need-scan-requires
+scan-requires c κs = search needs
+
+returns-2 : tie.Need-returns-2
+returns-2 c = search needs
+
+add-e : tie.Need-add-e
+add-e c = search needs
+
+shared-slice-read-if3 : tie.Need-shared-slice-read-if3
+shared-slice-read-if3 c = search needs
+
+sub-parse : tie.Need-sub-parse
+sub-parse c = search needs
+
+part-parse-start : tie.Need-part-parse-start
+part-parse-start c = search needs
+
+part-parse-end : tie.Need-part-parse-end
+part-parse-end c = search needs
+
+parse-requires : tie.Need-parse-requires
+parse-requires c κs = search needs
+
+is-call-requires : tie.Need-is-call-requires
+is-call-requires c κs = search needs
+
+add-t18 : tie.Need-add-t18
+add-t18 c = search needs
+
+returns-3 : tie.Need-returns-3
+returns-3 c = next-call _ _ _ _ _ _ refl (c .before .before .parse .ensures) (search needs) (search needs) (cc)
+
+scan-requires-2 : tie.Need-scan-requires-2
+scan-requires-2 c κs = search needs
+
+returns-4 : tie.Need-returns-4
+returns-4 c = next-scan _ _ _ _ _ _ refl (c .before .before .before .before .parse .ensures) _ (cc) (c .scan2 .ensures)
+
+scan-requires-3 : tie.Need-scan-requires-3
+scan-requires-3 c κs = search needs
+
+returns-5 : tie.Need-returns-5
+returns-5 c = search needs
+
+pub next-line-spec : {M : Type 1} → statement M
+next-line-spec =
+    tie.close
+    (tie.spec
+    returns
+    sub-if2
+    scan-requires
+    returns-2
+    add-e
+    shared-slice-read-if3
+    sub-parse
+    part-parse-start
+    part-parse-end
+    parse-requires
+    is-call-requires
+    add-t18
+    returns-3
+    scan-requires-2
+    returns-4
+    scan-requires-3
+    returns-5)

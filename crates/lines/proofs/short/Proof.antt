@@ -1,0 +1,40 @@
+-- `lines::short` meets its promise: each test is one of those for 71, and what passes them is known by its bytes.
+use native.Mathlib.Omega.{arith}
+use borrow.Author.Needs.{needs}
+use Rattle.rules.specs.Tests.{said}
+use Rattle.lines.specs.Frame.{empty-line, odd-line, long-line, no-digits, hex-line}
+use Rattle.lines.proofs.short.Statement.{statement}
+use Rattle.lines.proofs.short.Tie as tie
+
+returns : tie.Need-returns
+returns c = empty-line _ (omega arith)
+
+returns-2 : tie.Need-returns-2
+returns-2 c = odd-line _ (λ z. omega arith)
+
+returns-3 : tie.Need-returns-3
+returns-3 c = long-line _ (omega arith)
+
+all-digits-requires : tie.Need-all-digits-requires
+all-digits-requires c κs = search needs
+
+known-frame-requires : tie.Need-known-frame-requires
+known-frame-requires c κs = (search needs, said _ _ _ (c .before .all-digits .ensures) (c .if4 .taken), search needs)
+
+returns-4 : tie.Need-returns-4
+returns-4 c = hex-line _ _ (λ z. omega arith) (omega arith) (omega arith) (said _ _ _ (c .before .before .all-digits .ensures) (c .before .if4 .taken)) (c .known-frame .ensures)
+
+returns-5 : tie.Need-returns-5
+returns-5 c = no-digits _ (said _ _ _ (c .before .all-digits .ensures) (c .if4 .left))
+
+pub short-spec : {M : Type 1} → statement M
+short-spec =
+    tie.close
+    (tie.spec
+    returns
+    returns-2
+    returns-3
+    all-digits-requires
+    known-frame-requires
+    returns-4
+    returns-5)

@@ -1,0 +1,127 @@
+-- Lower-case hexadecimal digits, and the numbers that digits of a line stand for, the highest first.
+use mathlib.Core.Path.{_≡_, refl, sym, _∙_}
+use mathlib.Core.Bool.{Bool}
+use mathlib.Core.List.{List}
+use Prim.Native.Nat.{ℕ, zero, suc, _+_, _-_, _*_, _^_, _≤_, _<_}
+use native.Mathlib.Nat.{add-zero, add-suc, add-assoc, mul-assoc, pow-suc}
+use native.Mathlib.Omega.{arith}
+use lib.Dec.{ltb}
+use lib.ListN.{length, getD}
+use borrow.Author.Tests.{lt-ltb, le-ltb, ltb-true, ltb-false}
+use Rattle.rules.specs.Choice.{pick, picked, passed, either}
+use Rattle.rules.specs.Search.{all}
+
+-- the value of a digit, 0 to 9 and a to f; 16 for any other byte
+unfoldable pub digitOf : ℕ → ℕ
+digitOf b = pick (ltb b 48) 16 (pick (ltb b 58) (b - 48) (pick (ltb b 97) 16 (pick (ltb b 103) (b - 87) 16)))
+
+-- the sign of a digit
+unfoldable pub signOf : ℕ → ℕ
+signOf d = pick (ltb d 10) (48 + d) (87 + d)
+
+abbrev pub isDigit : ℕ → Bool
+isDigit b = ltb (digitOf b) 16
+
+-- place i of a line holds a digit
+abbrev pub digitAt : List ℕ → ℕ → Bool
+digitAt l i = isDigit (getD l i 0)
+
+unfoldable pub allDigits : List ℕ → Bool
+allDigits l = all (digitAt l) 0 (length l)
+
+-- the number that n digits stand for, from a place on
+unfoldable pub value : List ℕ → ℕ → ℕ → ℕ
+value l at zero = 0
+value l at (suc n) = value l at n * 16 + digitOf (getD l (at + n) 0)
+
+-- the number in n bytes of a line, from byte k on: two digits a byte
+abbrev pub number : List ℕ → ℕ → ℕ → ℕ
+number l k n = value l (k * 2) (n * 2)
+
+-- ---- digits and their signs
+module _ (d : ℕ) where
+  pub sign-low : d < 10 → 48 + d ≡ signOf d
+  unfolding signOf
+  sign-low h = picked _ _ _ _ (lt-ltb d 10 h) refl
+
+  pub sign-high : 10 ≤ d → 87 + d ≡ signOf d
+  unfolding signOf
+  sign-high h = passed _ _ _ _ (le-ltb d 10 h) refl
+
+module _ (b : ℕ) where
+  digit-below : b < 48 → digitOf b ≡ 16
+  unfolding digitOf pick
+  digit-below h = simp (lt-ltb b 48 h)
+
+  digit-low : 48 ≤ b → b < 58 → digitOf b ≡ b - 48
+  unfolding digitOf pick
+  digit-low g h = simp (le-ltb b 48 g, lt-ltb b 58 h)
+
+  digit-between : 58 ≤ b → b < 97 → digitOf b ≡ 16
+  unfolding digitOf pick
+  digit-between g h = let k : 48 ≤ b = omega arith in simp (le-ltb b 48 k, le-ltb b 58 g, lt-ltb b 97 h)
+
+  digit-high : 97 ≤ b → b < 103 → digitOf b ≡ b - 87
+  unfolding digitOf pick
+  digit-high g h =
+      let k : 48 ≤ b = omega arith in
+      let m : 58 ≤ b = omega arith in
+      simp (le-ltb b 48 k, le-ltb b 58 m, le-ltb b 97 g, lt-ltb b 103 h)
+
+  digit-above : 103 ≤ b → digitOf b ≡ 16
+  unfolding digitOf pick
+  digit-above g =
+      let k : 48 ≤ b = omega arith in
+      let m : 58 ≤ b = omega arith in
+      let n : 97 ≤ b = omega arith in
+      simp (le-ltb b 48 k, le-ltb b 58 m, le-ltb b 97 n, le-ltb b 103 g)
+
+  -- a statement of a byte: for a digit below ten, for one of ten or more, for no digit
+  byte-by : {P : Type 0} → (48 ≤ b → b < 58 → digitOf b ≡ b - 48 → P) → (97 ≤ b → b < 103 → digitOf b ≡ b - 87 → P) → (digitOf b ≡ 16 → P) → P
+  byte-by low high none =
+      either (ltb b 48) (λ e. none (digit-below (ltb-true _ _ e))) (λ e.
+      either (ltb b 58) (λ f. low (ltb-false _ _ e) (ltb-true _ _ f) (digit-low (ltb-false _ _ e) (ltb-true _ _ f))) (λ f.
+      either (ltb b 97) (λ g. none (digit-between (ltb-false _ _ f) (ltb-true _ _ g))) (λ g.
+      either (ltb b 103) (λ h. high (ltb-false _ _ g) (ltb-true _ _ h) (digit-high (ltb-false _ _ g) (ltb-true _ _ h))) (λ h.
+      none (digit-above (ltb-false _ _ h))))))
+
+  pub digit-most : digitOf b ≤ 16
+  digit-most = byte-by (λ g h e. omega arith) (λ g h e. omega arith) (λ e. omega arith)
+
+  -- a byte that is a digit is the sign of its value
+  pub sign-digit : digitOf b < 16 → signOf (digitOf b) ≡ b
+  sign-digit d =
+      byte-by
+      (λ g h e. sym (sign-low (digitOf b) (omega arith)) ∙ omega arith)
+      (λ g h e. sym (sign-high (digitOf b) (omega arith)) ∙ omega arith)
+      (λ e. absurd (omega arith))
+
+module _ (d : ℕ) (h : d < 16) where
+  -- and a digit is the value of its sign
+  pub digit-sign : digitOf (signOf d) ≡ d
+  digit-sign =
+      either (ltb d 10)
+      (λ e.
+      let g : d < 10 = ltb-true _ _ e in
+      let k = sign-low d g in
+      digit-low (signOf d) (omega arith) (omega arith) ∙ omega arith)
+      (λ e.
+      let g : 10 ≤ d = ltb-false _ _ e in
+      let k = sign-high d g in
+      digit-high (signOf d) (omega arith) (omega arith) ∙ omega arith)
+
+  pub sign-most : signOf d < 103
+  sign-most =
+      either (ltb d 10)
+      (λ e. let g : d < 10 = ltb-true _ _ e in let k = sign-low d g in omega arith)
+      (λ e. let g : 10 ≤ d = ltb-false _ _ e in let k = sign-high d g in omega arith)
+
+-- ---- numbers of several digits
+module _ (l : List ℕ) (at : ℕ) where
+  -- the first m digits count as much more as the n behind them take
+  pub value-add : (m n : ℕ) → value l at (m + n) ≡ value l at m * 16 ^ n + value l (at + m) n
+  unfolding value
+  value-add m zero = rw add-zero (omega arith)
+  value-add m (suc n) =
+      let e : value l at m * 16 ^ suc n ≡ value l at m * 16 ^ n * 16 = rw pow-suc (sym (mul-assoc (value l at m) (16 ^ n) 16)) in
+      rw (add-suc m n, value-add m n, add-assoc at m n, e) (omega arith)

@@ -1,0 +1,9 @@
+pub mod Hex
+pub mod Frame
+pub mod Lines
+pub mod Input
+pub mod Carry
+pub mod Marks
+pub mod Signs
+pub mod Whole
+pub mod Cases
