@@ -1,0 +1,24 @@
+-- Too late nothing is tried; else the ledger's own answer is told, and a refused entry has left the ledger.
+use borrow.Author.Needs.{needs}
+use Rattle.frames.specs.Laws.{attempts}
+use Rattle.frames.proofs.enter_pairs.Statement.{statement}
+use Rattle.frames.proofs.enter_pairs.Tie as tie
+
+is-late-requires : tie.Need-is-late-requires
+is-late-requires c κs = search needs
+
+returns : tie.Need-returns
+returns c = search attempts
+
+enter-requires : tie.Need-enter-requires
+enter-requires c κs = search needs
+
+entry-status-requires : tie.Need-entry-status-requires
+entry-status-requires c κs = search needs
+
+returns-2 : tie.Need-returns-2
+returns-2 c = search attempts
+
+pub enter-pairs-spec : {M : Type 1} → statement M
+enter-pairs-spec =
+    tie.close (tie.spec is-late-requires returns enter-requires entry-status-requires returns-2)

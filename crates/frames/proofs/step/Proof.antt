@@ -1,0 +1,78 @@
+-- In each arm the frame is known, and its own function has done what that frame does.
+use borrow.Author.Needs.{needs}
+use Rattle.frames.specs.Laws.{steps}
+use Rattle.frames.proofs.step.Statement.{statement}
+use Rattle.frames.proofs.step.Tie as tie
+
+enum-known-frame : tie.Need-enum-known-frame
+enum-known-frame c = search needs
+
+fix-site-requires : tie.Need-fix-site-requires
+fix-site-requires c κs = search needs
+
+enum-known-frame-2 : tie.Need-enum-known-frame-2
+enum-known-frame-2 c = search needs
+
+enter-pairs-requires : tie.Need-enter-pairs-requires
+enter-pairs-requires c κs = search needs
+
+enum-known-frame-3 : tie.Need-enum-known-frame-3
+enum-known-frame-3 c = search needs
+
+name-pages-requires : tie.Need-name-pages-requires
+name-pages-requires c κs = search needs
+
+enum-known-frame-4 : tie.Need-enum-known-frame-4
+enum-known-frame-4 c = search needs
+
+make-call-requires : tie.Need-make-call-requires
+make-call-requires c κs = search needs
+
+enum-known-frame-5 : tie.Need-enum-known-frame-5
+enum-known-frame-5 c = search needs
+
+bring-requires : tie.Need-bring-requires
+bring-requires c κs = search needs
+
+enum-known-frame-6 : tie.Need-enum-known-frame-6
+enum-known-frame-6 c = search needs
+
+returns : tie.Need-returns
+returns c = search steps
+
+returns-2 : tie.Need-returns-2
+returns-2 c = search steps
+
+returns-3 : tie.Need-returns-3
+returns-3 c = search steps
+
+returns-4 : tie.Need-returns-4
+returns-4 c = search steps
+
+returns-5 : tie.Need-returns-5
+returns-5 c = search steps
+
+returns-6 : tie.Need-returns-6
+returns-6 c = search steps
+
+pub step-spec : {M : Type 1} → statement M
+step-spec =
+    tie.close
+    (tie.spec
+    enum-known-frame
+    fix-site-requires
+    enum-known-frame-2
+    enter-pairs-requires
+    enum-known-frame-3
+    name-pages-requires
+    enum-known-frame-4
+    make-call-requires
+    enum-known-frame-5
+    bring-requires
+    enum-known-frame-6
+    returns
+    returns-2
+    returns-3
+    returns-4
+    returns-5
+    returns-6)
