@@ -1,4 +1,4 @@
--- What a frame does to the whole machine, and how it is answered: document 01's table of statuses from 73 on, its rows in its order.
+-- What a frame does to the whole machine, and how it is answered: the paper's table of statuses from 73 on, its rows in its order.
 use mathlib.Core.Bool.{Bool, true, false, not, _&&_, _||_}
 use mathlib.Core.List.{List, [], _∷_}
 use Prim.Native.Nat.{ℕ}

@@ -1,4 +1,4 @@
--- What a call is answered, and what is to be done for it: document 01's table of calls with its ordered tests.
+-- What a call is answered, and what is to be done for it: the paper's table of calls, each call with its tests in order.
 use mathlib.Core.Bool.{Bool, false, not, _&&_, _||_}
 use mathlib.Core.List.{List, [], _∷_}
 use Prim.Native.Nat.{ℕ, _%_}
@@ -126,7 +126,7 @@ unfoldable pub ownedAt : List ℕ → Place → ℕ → Bool
 ownedAt o (Page page) world = eqb (owner o page) world
 ownedAt o Outside world = false
 
--- a multiple of 4 inside a window page that Normal owns
+-- a core may start there: an instruction's address, in a page of Normal's
 unfoldable pub goodStart : Window → List ℕ → ℕ → Bool
 goodStart w o address = eqb (address % 4) 0 && ownedAt o (pageOf w address) normal
 
@@ -201,7 +201,7 @@ unfoldable pub owning : List ℕ → Place → ℕ → Judged
 owning o (Page page) world = granted (Answer.Owns (eqb (owner o page) world)) Deed.Nothing
 owning o Outside world = denied Reason.Invalid
 
--- physical x1 at virtual x2, size x3, attributes x4
+-- the mapping that a call wants
 abbrev pub wanted : Args → Mapping
 wanted a = record { virt = a .x2; phys = a .x1; size = a .x3; attr = a .x4 }
 
@@ -263,7 +263,7 @@ standard s a key =
 unfoldable pub trusted : Seen → ℕ → Judged
 trusted v key = pick (eqb key secureFinish) (finishing secure v) (handing secure v)
 
--- ---- the whole judgement: no call of Root's, bits 23 to 16, the ledger, the whole identifier in its handler, the caller's world, the arguments
+-- ---- the whole judgement, in order
 unfoldable pub byHandler : View → Args → ℕ → ℕ → Judged
 byHandler s a key h =
     pick (eqb h 0) (architecture a key)

@@ -1,4 +1,4 @@
--- The worlds and the identifiers of document 01, each named once.
+-- The worlds that call and the identifiers that are served, each named once.
 use Prim.Native.Nat.{ℕ}
 
 abbrev pub secure : ℕ

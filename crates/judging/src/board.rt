@@ -25,7 +25,7 @@ use pages::Owners;
 use pages::Place;
 use rules::Reason;
 
-// Whether the caller owns the page that holds an address.
+// Whether an address lies in a page of the caller's.
 fn own_page(v: Seen, owners: &Owners, a: Args) -> Judged
     ensures { λ r. ⌜ r ≡ owning (now (owners .entry)) (pageOf (v .window) (a .x1)) (v .caller) ⌝ }
 {

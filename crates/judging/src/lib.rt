@@ -126,7 +126,7 @@ fn read_args(p: Parts, x: &[u64; 8]) -> Args
     }
 }
 
-// The whole identifier in its handler, the caller's world and the arguments.
+// What the handler makes of the call.
 fn by_handler(
     v: Seen,
     powers: &Powers,

@@ -1,4 +1,4 @@
--- Lines and their frames, worked out from the definitions: those of document 01, and either side of 71 and 72.
+-- Lines and their frames, worked out from the definitions: those of the paper, and either side of 71 and 72.
 use mathlib.Core.Path.{_≡_, refl}
 use mathlib.Core.List.{List, [], _∷_, _++_, map}
 use Prim.Native.Nat.{ℕ}

@@ -1,4 +1,4 @@
--- A line as a frame: what document 01 asks of a line by itself, statuses 71 and 72.
+-- A line as a frame: what is asked of a line by itself, statuses 71 and 72.
 use mathlib.Core.Path.{_≡_, refl, sym, ap, _∙_}
 use mathlib.Core.Bool.{Bool, true, false, not, _&&_, _||_}
 use mathlib.Core.List.{List, [], _∷_}
@@ -23,7 +23,7 @@ statusByte Misplaced = 0x73
 statusByte OutOfRange = 0x74
 statusByte Clash = 0x75
 
--- an empty line, an odd count, a sign that is no digit, or over 132 digits
+-- no bytes can be read from the line: none are there, half of one is left over, a sign is no digit, or there are too many
 unfoldable pub noHex : List ℕ → Bool
 noHex l = eqb (length l) 0 || (not (eqb (length l % 2) 0) || (not (allDigits l) || ltb 132 (length l)))
 

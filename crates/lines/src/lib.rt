@@ -18,9 +18,9 @@ const NEWLINE: u8 = 10;
 // How a frame is answered. The paper's byte of each stands in one definition.
 pub enum Status {
     Accepted,
-    // an empty line, an odd count, a sign that is no digit, or over 132 digits
+    // the line cannot be read as bytes
     NoHex,
-    // an unknown first byte, or a wrong length
+    // the bytes are no frame's
     Unknown,
     // a frame at a time when it may not come
     Misplaced,

@@ -1,4 +1,4 @@
--- Answers and their text, worked out from the definitions: those of document 01, and a core that went OFF.
+-- Answers and their text, worked out from the definitions: those of the paper, and a core that went OFF.
 use mathlib.Core.Path.{_≡_, refl}
 use mathlib.Core.List.{List, [], _∷_, _++_}
 use Rattle.rules.specs.Choice.{pick}

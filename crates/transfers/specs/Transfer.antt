@@ -27,7 +27,7 @@ moveTests (Page first) o list from start count =
     ∷ [])
     Granted
 
--- unaligned or a page outside; any page of another owner; any page mapped by its owner
+-- first where the run lies, then whose its pages are, then whether one of them is mapped
 unfoldable pub moveVerdict : Window → List ℕ → List Mapping → ℕ → ℕ → ℕ → Verdict
 moveVerdict w o list from start count = moveTests (runOf w start count) o list from start count
 

@@ -1,0 +1,81 @@
+-- Each line answered moves bytes from what is still to be printed to what was printed, whatever bytes follow; the loop ends since each line has its newline.
+use Prim.Native.Nat.{_-_}
+use borrow.Author.Needs.{needs}
+use lib.ListN.{length}
+use Rattle.frames.specs.Frames.{machine}
+use Rattle.stream.specs.Run.{Feeds, feeds-none, reads-on, feeds-on}
+use Rattle.stream.proofs.feed.Statement.{statement}
+use Rattle.stream.proofs.feed.Tie as tie
+
+abbrev Inv-loop : tie.InvT-loop
+Inv-loop chunk out₀ book₀ named₀ owners₀ saved₀ powers₀ turns₀ lists₀ x₀ s₀ at₀ put₀ out book named owners saved powers turns lists x s at put =
+    Feeds chunk (machine s₀ named₀ book₀ owners₀ saved₀ powers₀ turns₀ lists₀) at₀ out₀ put₀ (machine s named book owners saved powers turns lists) at out put
+
+abbrev μ-loop : tie.MeasureT-loop
+μ-loop chunk out₀ book₀ named₀ owners₀ saved₀ powers₀ turns₀ lists₀ x₀ s₀ at₀ put₀ out book named owners saved powers turns lists x s at put =
+    length chunk - at
+
+loop-holds : tie.Need-loop-holds Inv-loop μ-loop
+loop-holds c = search feeds-none
+
+sub-if1 : tie.Need-sub-if1 Inv-loop μ-loop
+sub-if1 c = search needs
+
+same-length : tie.Need-same-length Inv-loop μ-loop
+same-length c = search needs
+
+returns : tie.Need-returns Inv-loop μ-loop
+returns c = search needs
+
+next-line-requires : tie.Need-next-line-requires Inv-loop μ-loop
+next-line-requires c κs = search needs
+
+enum-known-frame : tie.Need-enum-known-frame Inv-loop μ-loop
+enum-known-frame c = search needs
+
+enum-told : tie.Need-enum-told Inv-loop μ-loop
+enum-told c = search needs
+
+same-length-2 : tie.Need-same-length-2 Inv-loop μ-loop
+same-length-2 c = search needs
+
+returns-2 : tie.Need-returns-2 Inv-loop μ-loop
+returns-2 c = search needs
+
+answer-requires : tie.Need-answer-requires Inv-loop μ-loop
+answer-requires c κs = search needs
+
+loop-less : tie.Need-loop-less Inv-loop μ-loop
+loop-less c = search reads-on
+
+loop-again : tie.Need-loop-again Inv-loop μ-loop
+loop-again c =
+    feeds-on _ _ _ _ _ (c .before .before .before .before .before .before .before .before .before .before .before .before .before .before .before .before .next-line .ensures) _ _ (search needs) _ _ _ _ _ _ _
+    (c .before .before .before .before .before .before .before .before .before .before .before .before .before .before .before .before .before .before .before .before .loop .inv) (search needs) _ _ _ (c .before .before .before .answer .ensures)
+
+same-length-3 : tie.Need-same-length-3 Inv-loop μ-loop
+same-length-3 c = search needs
+
+returns-3 : tie.Need-returns-3 Inv-loop μ-loop
+returns-3 c = search needs
+
+pub feed-spec : {M : Type 1} → statement M
+feed-spec =
+    tie.close
+    (tie.spec
+    Inv-loop
+    μ-loop
+    loop-holds
+    sub-if1
+    same-length
+    returns
+    next-line-requires
+    enum-known-frame
+    enum-told
+    same-length-2
+    returns-2
+    answer-requires
+    loop-less
+    loop-again
+    same-length-3
+    returns-3)
