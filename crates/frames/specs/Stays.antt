@@ -28,14 +28,14 @@ use Rattle.frames.specs.Laws.{ruled-misplaced, ruled-outside, ruled-clas
 
 -- ---- what the table of statuses makes of a frame, by its rows
 pub ruled-by : {S : Type 0} (P : S × Reply → Type 0) (misplaced outside clash : Bool) (s : S) (done : S × Reply)
-    → ((why : Status) → P (s, Told why)) → (misplaced ≡ false → outside ≡ false → clash ≡ false → P done) → P (ruled misplaced outside clash s done)
+    → ((why : Status) → (why ≡ Accepted → ⊥) → P (s, Told why)) → (misplaced ≡ false → outside ≡ false → clash ≡ false → P done) → P (ruled misplaced outside clash s done)
 ruled-by P misplaced outside clash s done f g =
     either misplaced
-    (λ a. rw (← ruled-misplaced misplaced outside clash s done _ a refl) (f Misplaced))
+    (λ a. rw (← ruled-misplaced misplaced outside clash s done _ a refl) (f Misplaced (λ e. let z : _≡_ {A = ℕ} 0 1 = cc in omega arith)))
     (λ a. either outside
-    (λ b. rw (← ruled-outside misplaced outside clash s done _ a b refl) (f OutOfRange))
+    (λ b. rw (← ruled-outside misplaced outside clash s done _ a b refl) (f OutOfRange (λ e. let z : _≡_ {A = ℕ} 0 1 = cc in omega arith)))
     (λ b. either clash
-    (λ c. rw (← ruled-clash misplaced outside clash s done _ a b c refl) (f Clash))
+    (λ c. rw (← ruled-clash misplaced outside clash s done _ a b c refl) (f Clash (λ e. let z : _≡_ {A = ℕ} 0 1 = cc in omega arith)))
     (λ c. rw (← ruled-done misplaced outside clash s done _ a b c refl) (g a b c))))
 
 -- ---- what the rows say where none of them holds
@@ -55,9 +55,10 @@ naming-accepted Naming.Done a b = refl
 naming-accepted Naming.OutOfRange a b = absurd (yes-or-no true refl a)
 naming-accepted Naming.Taken a b = absurd (yes-or-no true refl b)
 
--- ---- a frame by its outcomes: a case for all refusals, and one for each kind that is accepted, with what it has met
+-- ---- a frame by its outcomes: a case for a line that is no frame, one for all refusals, and one for each kind that is accepted, with what it has met
 module _ (m : Machine) (xs : List ℕ) (P : Frame → Machine × Reply → Type 0)
-    (refused : (f : Frame) (why : Status) → P f (m, Told why))
+    (unread : (why : Status) → P (Frame.Refused why) (m, Told why))
+    (refused : (f : Frame) (why : Status) → (why ≡ Accepted → ⊥) → P f (m, Told why))
     (site : (base pages cores : ℕ) → m .setup .ready ≡ false → fits (siteOf base pages cores) ≡ true
     → P (Frame.Site base pages cores) (withSetup m (fixed (m .setup) (siteOf base pages cores), Told Accepted)))
     (entry : (first last kind number : ℕ) → m .setup .ready ≡ true → m .setup .ended ≡ false → entered (m .ledger) first last kind number .0 ≡ Entry.Accepted
@@ -87,10 +88,10 @@ module _ (m : Machine) (xs : List ℕ) (P : Frame → Machine × Reply → Type 
   framed-by (Frame.Arrival core) =
       ruled-by (λ (o : Seat × Reply). P (Frame.Arrival core) (withSeat m o)) _ _ _ _ _
       (refused (Frame.Arrival core)) (λ a b c. arrival core (not-false _ a) (leb-false _ _ b) (not-false _ c))
-  framed-by (Frame.Refused why) = refused (Frame.Refused why) why
+  framed-by (Frame.Refused why) = unread why
 
 -- a call's answer is told as no status
-shown-not-told : (core : ℕ) (r p t : List ℕ) (why : Status) → shownOn core r p t ≡ Told why → ⊥
+pub shown-not-told : (core : ℕ) (r p t : List ℕ) (why : Status) → shownOn core r p t ≡ Told why → ⊥
 unfolding shownOn
 shown-not-told core r p t why =
     chosen (λ (q : Reply). q ≡ Told why → ⊥) (isOn (power p core)) _ _
@@ -102,7 +103,7 @@ module _ (m : Machine) (f : Frame) (xs : List ℕ) where
   unfolding performed
   refused-same why e n =
       framed-by m xs (λ (g : Frame) (o : Machine × Reply). o .1 ≡ Told why → o .0 ≡ m)
-      (λ g w k. refl)
+      (λ w k. refl) (λ g w d k. refl)
       (λ base pages cores a b (k : Told Accepted ≡ Told why). absurd (n cc))
       (λ first last kind number a b c (k : Told Accepted ≡ Told why). absurd (n cc))
       (λ first count to a b c (k : Told Accepted ≡ Told why). absurd (n cc))
@@ -115,7 +116,7 @@ module _ (m : Machine) (f : Frame) (xs : List ℕ) where
   unfolding performed
   told-goes-on why e =
       framed-by m xs (λ (g : Frame) (o : Machine × Reply). o .1 ≡ Told why → o .0 .setup .ended ≡ m .setup .ended)
-      (λ g w k. refl) (λ base pages cores a b k. refl) (λ first last kind number a b c k. refl) (λ first count to a b c k. refl)
+      (λ w k. refl) (λ g w d k. refl) (λ base pages cores a b k. refl) (λ first last kind number a b c k. refl) (λ first count to a b c k. refl)
       (λ core a b c k. absurd (shown-not-told _ _ _ _ why k)) (λ core a b c k. refl) f e
 
   -- and after one it has ended
@@ -123,7 +124,8 @@ module _ (m : Machine) (f : Frame) (xs : List ℕ) where
   unfolding performed
   call-ends core world x e =
       framed-by m xs (λ (g : Frame) (o : Machine × Reply). o .1 ≡ Called core world x → o .0 .setup .ended ≡ true)
-      (λ g w (k : Told w ≡ Called core world x). absurd (not-called w k))
+      (λ w (k : Told w ≡ Called core world x). absurd (not-called w k))
+      (λ g w d (k : Told w ≡ Called core world x). absurd (not-called w k))
       (λ base pages cores a b (k : Told Accepted ≡ Called core world x). absurd (not-called Accepted k))
       (λ first last kind number a b c (k : Told Accepted ≡ Called core world x). absurd (not-called Accepted k))
       (λ first count to a b c (k : Told Accepted ≡ Called core world x). absurd (not-called Accepted k))
@@ -138,7 +140,7 @@ module _ (m : Machine) (f : Frame) (xs : List ℕ) where
   unfolding performed
   site-stays e =
       framed-by m xs (λ (g : Frame) (o : Machine × Reply). (o .0 .setup .ready ≡ true) × (o .0 .setup .site ≡ m .setup .site))
-      (λ g w. (e, refl)) (λ base pages cores a b. absurd (yes-or-no _ e a)) (λ first last kind number a b c. (e, refl)) (λ first count to a b c. (e, refl))
+      (λ w. (e, refl)) (λ g w d. (e, refl)) (λ base pages cores a b. absurd (yes-or-no _ e a)) (λ first last kind number a b c. (e, refl)) (λ first count to a b c. (e, refl))
       (λ core a b c. (e, refl)) (λ core a b c. (e, refl)) f
 
   -- set-up that has ended stays so, and with it the ledger and the names
@@ -151,7 +153,7 @@ module _ (m : Machine) (f : Frame) (xs : List ℕ) where
   unfolding performed called applied
   settled e =
       framed-by m xs (λ (g : Frame) (o : Machine × Reply). Settled (o .0))
-      (λ g w. record { ended = e; ledger = refl; named = refl }) (λ base pages cores a b. record { ended = e; ledger = refl; named = refl }) (λ first last kind number a b c. absurd (yes-or-no _ e b)) (λ first count to a b c. absurd (yes-or-no _ e b))
+      (λ w. record { ended = e; ledger = refl; named = refl }) (λ g w d. record { ended = e; ledger = refl; named = refl }) (λ base pages cores a b. record { ended = e; ledger = refl; named = refl }) (λ first last kind number a b c. absurd (yes-or-no _ e b)) (λ first count to a b c. absurd (yes-or-no _ e b))
       (λ core a b c. record { ended = refl; ledger = refl; named = refl }) (λ core a b c. record { ended = e; ledger = refl; named = refl }) f
 
   pub ledger-stays : m .setup .ended ≡ true → framed m f xs .0 .ledger ≡ m .ledger
@@ -162,7 +164,7 @@ module _ (m : Machine) (f : Frame) (xs : List ℕ) where
   unfolding performed
   ended-ready h =
       framed-by m xs (λ (g : Frame) (o : Machine × Reply). o .0 .setup .ended ≡ true → o .0 .setup .ready ≡ true)
-      (λ g w. h) (λ base pages cores a b k. refl) (λ first last kind number a b c k. a) (λ first count to a b c k. a) (λ core a b c k. a) (λ core a b c k. a) f
+      (λ w. h) (λ g w d. h) (λ base pages cores a b k. refl) (λ first last kind number a b c k. a) (λ first count to a b c k. a) (λ core a b c k. a) (λ core a b c k. a) f
 
 -- ---- the two steps of the calls' state, as frames
 module _ (m : Machine) (core : ℕ) where
