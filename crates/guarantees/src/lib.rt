@@ -1,0 +1,1 @@
+// What the definitions guarantee as a whole: theorems for a reviewer, in specs/ alone.
