@@ -7,7 +7,7 @@ use Prim.Native.Nat.{ℕ, zero, suc, _+_, _-_, _*_, _/_, _%_, _^_, _<_}
 use native.Mathlib.Omega.{arith}
 use lib.Dec.{eqb, leb}
 use lib.ListN.{getD}
-use borrow.Author.Tests.{eq-eqb, ne-eqb, lt-leb}
+use borrow.Author.Tests.{eq-eqb, ne-eqb, lt-ltb, lt-leb}
 use Rattle.rules.specs.Choice.{pick, either, first-or, second-or, neither, right-false}
 use Rattle.rules.specs.Tests.{sieve}
 use Rattle.rules.specs.declared.Reason.{Reason}
@@ -216,14 +216,14 @@ p8 : Holds (case 8)
 unfolding argsOf byHandler board mapping mapVerdict pick admitted parts
 p8 c (inl e) to may f = settled c e to may Answer.Done refl refl (rw f)
 
-bad-attributes : (m : Mapping) → m .attr ≡ 3 → malformed m ≡ true
+no-attributes : (m : Mapping) → 2 < m .attr → malformed m ≡ true
 unfolding malformed
-bad-attributes m e = second-or (unaligned (m .virt)) _ (second-or (unaligned (m .phys)) _ (second-or (unaligned (m .size)) _ (rw e)))
+no-attributes m h = second-or (unaligned (m .virt)) _ (second-or (unaligned (m .phys)) _ (second-or (unaligned (m .size)) _ (lt-ltb 2 (m .attr) h)))
 
 p9 : Holds (case 9)
 unfolding argsOf byHandler board mapping mapVerdict sieve pick admitted parts
 p9 c (inl e) to may f =
-    settled c e to may (Answer.No Reason.Malformed) refl refl (rw (bad-attributes (wanted (args c)) (f .1), f .0))
+    settled c e to may (Answer.No Reason.Malformed) refl refl (rw (no-attributes (wanted (args c)) (omega (arith, f .1)), f .0))
 
 -- the only mapping has another size
 not-half : (c : Call) → HalfTheOnly c → hasExactly (held (c .before .lists) (world c)) (x c 1) (x c 2) ≡ false
@@ -237,9 +237,9 @@ unfolding argsOf byHandler board unmapping sieve pick admitted parts
 p10 c (inl e) to may h = settled c e to may (Answer.No Reason.NoMapping) refl refl (rw (not-half c h))
 
 module _ (c : Call) (r : world c ≡ normal) where
-  level : x c 2 ≡ 1 → stating (view c .seen) (view c .powers) (args c) ≡ denied Reason.Invalid
+  no-level : (x c 2 ≡ 0 → ⊥) → stating (view c .seen) (view c .powers) (args c) ≡ denied Reason.Invalid
   unfolding argsOf stating sieve pick
-  level f = either (leb (c .before .site .cores) (x c 1)) (λ y. rw (r, f, y)) (λ n. rw (r, f, n))
+  no-level f = either (leb (c .before .site .cores) (x c 1)) (λ y. rw (r, y)) (λ n. rw (r, n, ne-eqb (x c 2) 0 f))
 
   oneself : OneselfWell c → starting (view c .seen) (view c .powers) (view c .owners) (args c) ≡ denied Reason.AlreadyOn
   unfolding argsOf starting goodStart ownedAt sieve pick
@@ -256,8 +256,8 @@ module _ (c : Call) (r : world c ≡ normal) where
 
 p11 : Holds (case 11)
 unfolding byHandler standard pick admitted parts
-p11 c (inl e) to (inl r) f = settled c e to (from-normal r) (Answer.No Reason.Invalid) refl refl (level c r f)
-p11 c (inr (inl e)) to (inl r) f = settled c e to (from-normal r) (Answer.No Reason.Invalid) refl refl (level c r f)
+p11 c (inl e) to (inl r) f = settled c e to (from-normal r) (Answer.No Reason.Invalid) refl refl (no-level c r (λ (z : x c 2 ≡ 0). omega (arith, f)))
+p11 c (inr (inl e)) to (inl r) f = settled c e to (from-normal r) (Answer.No Reason.Invalid) refl refl (no-level c r (λ (z : x c 2 ≡ 0). omega (arith, f)))
 
 p12 : Holds (case 12)
 unfolding byHandler standard pick admitted parts
