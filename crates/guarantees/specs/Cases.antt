@@ -7,7 +7,7 @@ use Prim.Native.Nat.{ℕ, zero, suc, _+_, _-_, _*_, _/_, _%_, _^_, _<_}
 use native.Mathlib.Omega.{arith}
 use lib.Dec.{eqb, leb}
 use lib.ListN.{getD}
-use borrow.Author.Tests.{eq-eqb, ne-eqb, lt-ltb, lt-leb}
+use borrow.Author.Tests.{eq-eqb, ne-eqb, eqb-true, lt-ltb, lt-leb}
 use Rattle.rules.specs.Choice.{pick, either, first-or, second-or, neither, right-false}
 use Rattle.rules.specs.Tests.{sieve}
 use Rattle.rules.specs.declared.Reason.{Reason}
@@ -24,7 +24,7 @@ use Rattle.pages.specs.Owners.{owner}
 use Rattle.pages.specs.declared.Window.{Window}
 use Rattle.pages.specs.declared.Place.the-variants.{Outside}
 use Rattle.mapping.specs.Mapping.{unaligned, malformed, mapVerdict, hasExactly, anyOf, exact}
-use Rattle.mapping.specs.Lists.{held}
+use Rattle.mapping.specs.Lists.{held, held-some}
 use Rattle.mapping.specs.declared.Mapping.{Mapping}
 use Rattle.transfers.specs.Transfer.{moveTests, moveVerdict}
 use Rattle.judging.specs.Names.{secure, normal, realm}
@@ -59,7 +59,7 @@ world c = callerOf (c .before) (c .core)
 abbrev pub window : Call → Window
 window c = c .before .site .window
 
--- the ledger sends the call to this handler
+-- the ledger sends the call's type and owner to this handler
 abbrev pub Reaches : Call → ℕ → Type 0
 Reaches c h = handler (c .before .ledger) (calledBy (c .numbers) .fast) (calledBy (c .numbers) .owner) ≡ Handler h
 
@@ -87,21 +87,22 @@ pub data Row : Type 1 where
   -- identifiers, the handler that they reach, the worlds that call, what more the case says of the call, and its answer
   answers : List ℕ → ℕ → List ℕ → (Call → Type 0) → ℕ → Row
 
--- what a row says, whatever it leaves open
+-- what a row says: of every x0 with its identifier, and of every call of which the facts that it names hold
 abbrev pub Holds : Row → Type 0
 Holds (splits id p) = (x0 : ℕ) → low32 x0 ≡ id → parts (identifierOf x0) ≡ p
 Holds (passes id) = (x0 : ℕ) → low32 x0 ≡ id → admitted (parts (identifierOf x0)) ≡ true
 Holds (always id n) = (c : Call) → identifier c ≡ id → Answered c n
 Holds (answers ids h worlds facts n) = (c : Call) → Among (identifier c) ids → Reaches c h → Among (world c) worlds → facts c → Answered c n
 
+-- -n, as it is written
 abbrev pub minus : ℕ → ℕ
 minus n = 2 ^ 64 - n
 
--- the worlds that may make a call that any may make
+-- every world but Root, which makes no calls
 abbrev pub anyWorld : List ℕ
 anyWorld = secure ∷ normal ∷ realm ∷ []
 
--- x1 is this place of an acceptable window
+-- the window is acceptable, and x1 is this address of it
 abbrev pub PageAt : (Window → ℕ) → Call → Type 0
 PageAt place c = (acceptable (window c) ≡ true) × (x c 1 ≡ place (window c))
 
@@ -109,7 +110,6 @@ PageAt place c = (acceptable (window c) ≡ true) × (x c 1 ≡ place (window c)
 pub record HalfTheOnly (c : Call) : Type 0 where
   pub only : Mapping
   pub list : held (c .before .lists) (world c) ≡ only ∷ []
-  pub some : 0 < only .size
   pub start : x c 1 ≡ only .virt
   pub half : x c 2 ≡ only .size / 2
 
@@ -127,7 +127,7 @@ pub record OneselfWell (c : Call) : Type 0 where
 abbrev pub onePage : List ℕ
 onePage = 0xC40001B0 ∷ 0xC40001B1 ∷ []
 
--- the paper's cases, in its order
+-- the paper's cases, in its order; handler 1 is the board's, 2 the standard one
 abbrev pub table : List Row
 table =
     splits 0x84000000 (record { fast = 1; wide = 0; owner = 4; function = 0; reserved = 0 })  -- P1
@@ -144,6 +144,7 @@ table =
     ∷ answers (0x84000003 ∷ 0xC4000003 ∷ []) 2 (normal ∷ []) OneselfWell (minus 4)  -- P12
     ∷ []
 
+-- each row holds
 abbrev pub All : List Row → Type 0
 All [] = Unit {0}
 All (r ∷ rs) = Holds r × All rs
@@ -225,12 +226,13 @@ unfolding argsOf byHandler board mapping mapVerdict sieve pick admitted parts
 p9 c (inl e) to may f =
     settled c e to may (Answer.No Reason.Malformed) refl refl (rw (no-attributes (wanted (args c)) (omega (arith, f .1)), f .0))
 
--- the only mapping has another size
+-- the only mapping has another size: half of none is none, and no mapping has that
 not-half : (c : Call) → HalfTheOnly c → hasExactly (held (c .before .lists) (world c)) (x c 1) (x c 2) ≡ false
 unfolding hasExactly anyOf exact
 not-half c h =
-    let d : eqb (h .only .size) (x c 2) ≡ false = ne-eqb (h .only .size) (x c 2) (λ e. omega arith) in
-    rw (h .list, d) (neither _ false (right-false (eqb (h .only .virt) (x c 1)) false refl) refl)
+    either (eqb (h .only .size) (x c 2))
+    (λ y. let z : x c 2 ≡ 0 = omega (arith, eqb-true (h .only .size) (x c 2) y) in rw z (held-some (c .before .lists) (world c) (x c 1)))
+    (λ n. rw (h .list, n) (neither _ false (right-false (eqb (h .only .virt) (x c 1)) false refl) refl))
 
 p10 : Holds (case 10)
 unfolding argsOf byHandler board unmapping sieve pick admitted parts

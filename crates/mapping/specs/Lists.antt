@@ -14,7 +14,7 @@ use Rattle.mapping.specs.Sizes.{places, worlds}
 use Rattle.mapping.specs.Mapping.{anyOf, firstOf, clash, isFull, hasExactly, meetsRun, deciding, leading, leadOf, without}
 use Rattle.mapping.specs.Entries.{Inserted, first-missing, without-missing, deciding-low}
 use Rattle.mapping.specs.Question.{asksFree, asks, answers}
-use Rattle.mapping.specs.Places.{gathered, lowest, lowest-any, lowest-none, lowest-first, lowest-free, room-left, none-left, filled-in, removed, gathered-same, gathered-none, gathered-most}
+use Rattle.mapping.specs.Places.{gathered, lowest, lowest-any, lowest-none, lowest-first, lowest-free, room-left, none-left, filled-in, removed, gathered-same, gathered-none, gathered-some, gathered-most}
 pub use Rattle.mapping.specs.Table.{unmapped, WholeLists, unmapped-whole}
 use Rattle.mapping.specs.Table.{blank, place, stored, stored-whole, stored-same, stored-other, stored-alike, place-no-world, stored-no-world, stored-no-place, unmapped-blank}
 use Rattle.mapping.specs.declared.Mapping.{Mapping}
@@ -131,6 +131,10 @@ held-unmapped w = gathered-none (place unmapped w) 0 places (λ i h l. rw (unmap
 pub held-no-world : (t : List ℕ) (w : ℕ) → worlds ≤ w → held t w ≡ []
 unfolding held
 held-no-world t w h = gathered-none (place t w) 0 places (λ i k l. rw (← place-no-world w i t blank refl h))
+
+pub held-some : (t : List ℕ) (w v : ℕ) → hasExactly (held t w) v 0 ≡ false
+unfolding held
+held-some t w v = gathered-some (place t w) 0 places v
 
 pub held-most : (t : List ℕ) (w : ℕ) → length (held t w) ≤ places
 unfolding held
