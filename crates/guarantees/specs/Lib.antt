@@ -1,1 +1,9 @@
+pub mod Runs
+pub mod Fit
+pub mod Owners
+pub mod Entries
+pub mod Statements
+pub mod Steps
+pub mod After
+pub mod Theorems
 pub mod Cases

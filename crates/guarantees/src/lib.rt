@@ -1,1 +1,1 @@
-// What the definitions guarantee as a whole: theorems for a reviewer, in specs/ alone.
+// What the monitor guarantees over any run, and the paper's table of cases: theorems for a reviewer, in specs/ alone.

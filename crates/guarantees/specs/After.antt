@@ -1,0 +1,114 @@
+-- The machine after any run: why each statement about it holds.
+use mathlib.Core.Path.{_≡_, refl, sym, ap, subst, _∙_}
+use mathlib.Core.Bool.{Bool, true, false}
+use mathlib.Core.List.{List, [], _∷_}
+use mathlib.Core.Option.{none, some}
+use mathlib.Core.Logic.{inl}
+use Prim.Native.Nat.{ℕ, _+_, _-_, _≤_, _<_}
+use native.Mathlib.Omega.{arith}
+use lib.Dec.{eqb}
+use borrow.Author.Tests.{eqb-true, eqb-false, ltb-true, ltb-false, ne-eqb}
+use lib.Dec.{ltb}
+use Rattle.rules.specs.Choice.{pick, pick-yes, pick-no, either, yes-or-no, first-or, not-first, not-second}
+use Rattle.cores.specs.Power.{off, pending, on, isOn, isPending}
+use Rattle.cores.specs.Cores.{power, turn, firstPowers, firstTurns, first-power-other, first-turn}
+use Rattle.cores.specs.declared.Power.{Power}
+use Rattle.pages.specs.Owners.{owner, unowned-owner}
+use Rattle.mapping.specs.Lists.{held, held-unmapped}
+use Rattle.mapping.specs.Ranges.{meet, meet-if, within-low, within-high}
+use Rattle.mapping.specs.Mapping.{holds, clashes, clash, anyOf, firstOf, deciding, leadOf}
+use Rattle.mapping.specs.Entries.{Apart}
+use Rattle.mapping.specs.Sound.{Sound, covers, sound-none}
+use Rattle.mapping.specs.Once.{coverings, covered-few, one-covers, lead-exact}
+use Rattle.mapping.specs.declared.Mapping.{Mapping}
+use Rattle.mapping.specs.declared.Lead.the-variants.{To}
+use Rattle.judging.specs.Grounds.{Calls}
+use Rattle.calls.specs.Kept.{Right}
+use Rattle.frames.specs.Frames.{Machine, first, stateOf}
+use Rattle.guarantees.specs.Runs.{Event, Events, next, ran, replies, replies-count, always}
+use Rattle.guarantees.specs.Fit.{Fit, fit-next}
+use Rattle.guarantees.specs.Owners.{owner-named, named-owner}
+use Rattle.guarantees.specs.Statements.{window, ownerIn, mapped, holdings, Guaranteed}
+
+-- ---- a world's mappings are apart, so one virtual address is held once
+module _ (x : ℕ) where
+  holding-clash : (m n : Mapping) → holds x m ≡ true → holds x n ≡ true → clashes m n ≡ true
+  unfolding clashes holds
+  holding-clash m n e h =
+      let a = within-low x (m .virt) (m .size) e in
+      let b = within-high x (m .virt) (m .size) e in
+      let c = within-low x (n .virt) (n .size) h in
+      let d = within-high x (n .virt) (n .size) h in
+      first-or (meet (m .virt) (m .size) (n .virt) (n .size)) _ (meet-if (m .virt) (m .size) (n .virt) (n .size) (omega arith) (omega arith))
+
+  none-holds : (m : Mapping) → holds x m ≡ true → (l : List Mapping) → clash l m ≡ false → holdings l x ≡ 0
+  unfolding holdings clash anyOf
+  none-holds m e [] h = refl
+  none-holds m e (n ∷ l) h =
+      either (holds x n) (λ y. absurd (yes-or-no _ (holding-clash m n e y) (not-first (clashes m n) _ h)))
+      (λ k. rw (pick-no {A = ℕ} (holds x n) 1 0 k) (omega (arith, none-holds m e l (not-second (clashes m n) _ h))))
+
+  one-holds : (l : List Mapping) → Apart l → holdings l x ≤ 1
+  unfolding holdings Apart
+  one-holds [] a = omega arith
+  one-holds (m ∷ l) a =
+      either (holds x m) (λ y. rw (pick-yes {A = ℕ} (holds x m) 1 0 y) (omega (arith, none-holds m y l (a .0))))
+      (λ k. rw (pick-no {A = ℕ} (holds x m) 1 0 k) (omega (arith, one-holds l (a .1))))
+
+-- ---- what a fit machine is, set up or not
+module _ (m : Machine) (fit : Fit m) where
+  -- what is so of a right state, and of the first machine
+  by-time : {P : Type 0} → (m .setup .ready ≡ true → Right (stateOf m) → P) → (m ≡ first → P) → P
+  by-time y n = either (m .setup .ready) (λ e. y e (fit .right e)) (λ e. n (fit .idle e))
+
+  fit-sound : (world : ℕ) → Sound (window m) (m .owners) world (mapped m world)
+  fit-sound world = by-time (λ e r. r .sound world) (λ e. rw (e, held-unmapped world) (sound-none _ _ world))
+
+  fit-world : (page : ℕ) → ownerIn m page ≤ 3
+  fit-world page = by-time (λ e r. r .worlds page) (λ e. rw (e, unowned-owner page) (omega arith))
+
+  fit-once : (world page : ℕ) → coverings (window m) (mapped m world) page ≤ 1
+  unfolding coverings
+  fit-once world page = by-time (λ e r. one-covers (window m) (m .owners) world (mapped m world) (r .window) (r .sound world) page) (λ e. rw (e, held-unmapped world) (omega arith))
+
+  fit-exact : (world x : ℕ) (n : Mapping) → deciding (mapped m world) x ≡ some n → leadOf (mapped m world) x ≡ To (n .phys + (x - n .virt)) (n .attr)
+  unfolding deciding firstOf
+  fit-exact world x n d =
+      by-time (λ e r. lead-exact (window m) (r .window) (m .owners) world (mapped m world) (r .sound world) x n d)
+      (λ e. let z : none ≡ some n = (rw (e, held-unmapped world) at d) in let y : _≡_ {A = ℕ} 0 1 = cc in absurd (omega arith))
+
+  fit-absent : (core : ℕ) → m .setup .ready ≡ true → m .setup .site .cores ≤ core → (isOn (power (m .powers) core) ≡ false) × (isPending (power (m .powers) core) ≡ false)
+  unfolding isOn isPending
+  fit-absent core e h = let a = fit .right e .absent core h in (rw a, rw a)
+
+  fit-runs : (core : ℕ) → isOn (power (m .powers) core) ≡ true → Calls (turn (m .turns) core .world)
+  unfolding isOn
+  fit-runs core o =
+      by-time
+      (λ e r.
+      either (ltb core 8) (λ h. r .seated core (ltb-true _ _ h) .world)
+      (λ h. absurd (yes-or-no _ o (fit-absent core e (omega (arith, ltb-false core 8 h, r .most-cores)) .0))))
+      (λ e.
+      either (eqb core 0) (λ z. rw (e, eqb-true core 0 z, first-turn 0 (omega arith)) (inl refl))
+      (λ z. let f = first-power-other core (eqb-false core 0 z) in let g : isOn (power firstPowers core) ≡ true = (rw e at o) in absurd (yes-or-no _ g (rw f))))
+
+-- All of it, after any run from a fit machine.
+pub guaranteed-after : (m : Machine) → Fit m → (run : Events) → Guaranteed m run (ran m run) (replies m run)
+guaranteed-after m fit run =
+    let f = always Fit fit-next m run fit in
+    let last = ran m run in
+    record {
+      owner-named = λ page. owner-named page run m fit;
+      owner-alone = λ page to n. named-owner page run m to fit n;
+      owner-world = fit-world last f;
+      mapped-owned = λ world. fit-sound last f world .owned;
+      mapped-once = fit-once last f;
+      virtual-once = λ world x. one-holds x (mapped last world) (fit-sound last f world .apart);
+      one-world = λ u v page a b. sym (fit-sound last f u .owned page a) ∙ fit-sound last f v .owned page b;
+      mapped-few = λ world. covered-few (window last) (last .owners) world (mapped last world) (fit-sound last f world);
+      sixteen = λ world. fit-sound last f world .few;
+      exact = fit-exact last f;
+      runs = fit-runs last f;
+      absent = fit-absent last f;
+      answered = replies-count m run;
+    }

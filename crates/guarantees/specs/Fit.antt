@@ -1,0 +1,154 @@
+-- What is so of the machine at every time, from the first line on: every line keeps it, whatever it is.
+use mathlib.Core.Path.{_≡_, refl, sym, ap, subst, _∙_}
+use mathlib.Core.Bool.{true, false, _&&_}
+use mathlib.Core.List.{List}
+use Prim.Native.Nat.{ℕ, _≤_, _<_}
+use native.Mathlib.Omega.{arith}
+use lib.Dec.{leb}
+use borrow.Author.Tests.{leb-true}
+use Rattle.rules.specs.Choice.{left-true, right-true, yes-or-no}
+use Rattle.ledger.specs.Ledger.{empty}
+use Rattle.registers.specs.Registers.{zeros}
+use Rattle.cores.specs.Power.{isOn, isPending}
+use Rattle.cores.specs.Cores.{power, firstPowers, firstTurns}
+use Rattle.pages.specs.Sizes.{lastWorld}
+use Rattle.pages.specs.Window.{acceptable}
+use Rattle.pages.specs.Owners.{unowned, unowned-whole, unowned-owner, given, given-whole, given-worlds}
+use Rattle.pages.specs.Named.{WholeNamed, unnamed, unnamed-whole, marked, marked-whole}
+use Rattle.pages.specs.Naming.{naming, Granted, naming-granted}
+use Rattle.pages.specs.declared.Naming.the-variants as Naming
+use Rattle.mapping.specs.Lists.{unmapped, held-unmapped}
+use Rattle.mapping.specs.Sound.{sound-none}
+use Rattle.calls.specs.Step.{State, state, called, applied, arrivedIn}
+use Rattle.calls.specs.Effects.{WholeTables}
+use Rattle.calls.specs.Kept.{Right, called-right, arrival-right, first-right}
+use Rattle.calls.specs.declared.Site.{Site}
+use Rattle.lines.specs.declared.Frame.{Frame}
+use Rattle.frames.specs.Frames.{Machine, machine, first, unset, stateOf, seatOf, siteOf, fixed, fits, performed, withSetup, withPages, withState, withSeat}
+use Rattle.frames.specs.Stays.{framed-by, call-state, arrival-state}
+use Rattle.frames.specs.declared.Reply.{Reply}
+use Rattle.guarantees.specs.Runs.{Event, Events, next, ran, always}
+
+pub record Fit (m : Machine) : Type 0 where
+  -- before there is a window, nothing has happened
+  pub idle : m .setup .ready ≡ false → m ≡ first
+  -- once there is one, all is right
+  pub right : m .setup .ready ≡ true → Right (stateOf m)
+  -- a page may be named only where nothing is mapped
+  pub bare : m .setup .ended ≡ false → m .lists ≡ unmapped
+  pub names : WholeNamed (m .named)
+  pub ready : m .setup .ended ≡ true → m .setup .ready ≡ true
+
+-- ---- the start
+never : {P : Type 0} → false ≡ true → P
+never e = absurd (yes-or-no false e refl)
+
+pub first-fit : Fit first
+first-fit =
+    record {
+      idle = λ e. refl;
+      right = λ (e : false ≡ true). never e;
+      bare = λ e. refl;
+      names = unnamed-whole;
+      ready = λ (e : false ≡ true). never e;
+    }
+
+-- ---- each frame that is accepted
+-- a window and cores such as there may be, and nothing done yet
+site-right : (site : Site) → fits site ≡ true → Right (state site empty unowned zeros firstPowers firstTurns unmapped)
+unfolding fits
+site-right site e =
+    let some = right-true (acceptable (site .window)) (leb 1 (site .cores) && leb (site .cores) 8) e in
+    first-right site empty unowned
+    (left-true (acceptable (site .window)) (leb 1 (site .cores) && leb (site .cores) 8) e)
+    (leb-true 1 (site .cores) (left-true (leb 1 (site .cores)) (leb (site .cores) 8) some))
+    (leb-true (site .cores) 8 (right-true (leb 1 (site .cores)) (leb (site .cores) 8) some))
+    unowned-whole (λ page. rw (unowned-owner page) (omega arith))
+
+-- owners that a set-up line has given, where nothing is mapped
+given-right : (s : State) → Right s → s .lists ≡ unmapped → (first count to : ℕ)
+    → Right (state (s .site) (s .ledger) (given (s .owners) first count to) (s .saved) (s .powers) (s .turns) (s .lists))
+given-right s r b first count to =
+    record {
+      window = r .window;
+      some-cores = r .some-cores;
+      most-cores = r .most-cores;
+      whole = record {
+        owners-whole = given-whole (s .owners) first count to (r .whole .owners-whole);
+        saved-whole = r .whole .saved-whole;
+        powers-whole = r .whole .powers-whole;
+        turns-whole = r .whole .turns-whole;
+        lists-whole = r .whole .lists-whole;
+      };
+      worlds = given-worlds (s .owners) first count to (r .whole .owners-whole) (r .worlds);
+      sound = λ world. rw (b, held-unmapped world) (sound-none (s .site .window) _ world);
+      seated = r .seated;
+      absent = r .absent;
+    }
+
+-- the ledger has no part in it
+entry-right : (s : State) → Right s → (l : List ℕ) → Right (state (s .site) l (s .owners) (s .saved) (s .powers) (s .turns) (s .lists))
+entry-right s r l =
+    record {
+      window = r .window;
+      some-cores = r .some-cores;
+      most-cores = r .most-cores;
+      whole = record {
+        owners-whole = r .whole .owners-whole;
+        saved-whole = r .whole .saved-whole;
+        powers-whole = r .whole .powers-whole;
+        turns-whole = r .whole .turns-whole;
+        lists-whole = r .whole .lists-whole;
+      };
+      worlds = r .worlds;
+      sound = r .sound;
+      seated = r .seated;
+      absent = r .absent;
+    }
+
+-- ---- any line
+pub fit-next : (m : Machine) (e : Event) → Fit m → Fit (next m e)
+unfolding performed
+fit-next m e h =
+    framed-by m (e .1) (λ (g : Frame) (o : Machine × Reply). Fit (o .0))
+    (λ why. h) (λ g why d. h)
+    (λ base pages cores a b.
+    record {
+      idle = λ (k : true ≡ false). never (sym k);
+      right = λ k. rw (h .idle a) (site-right (siteOf base pages cores) b);
+      bare = h .bare;
+      names = h .names;
+      ready = λ k. refl;
+    })
+    (λ first last kind number a b c.
+    record { idle = λ k. absurd (yes-or-no _ a k); right = λ k. entry-right (stateOf m) (h .right a) _; bare = h .bare; names = h .names; ready = h .ready })
+    (λ first count to a b c.
+    let g = naming-granted (m .owners) (m .named) (m .setup .site .window .pages) first count to c in
+    record {
+      idle = λ k. absurd (yes-or-no _ a k);
+      right = λ k. rw (g .owners-are) (given-right (stateOf m) (h .right a) (h .bare b) first count to);
+      bare = h .bare;
+      names = rw (g .named-are) (marked-whole (m .named) first count (h .names));
+      ready = h .ready;
+    })
+    (λ core a b c.
+    record {
+      idle = λ k. absurd (yes-or-no _ a k);
+      right = λ k. rw (call-state m core (e .1)) (called-right (stateOf m) (h .right a) core c (e .1));
+      bare = λ (k : true ≡ false). never (sym k);
+      names = h .names;
+      ready = λ k. a;
+    })
+    (λ core a b c.
+    record {
+      idle = λ k. absurd (yes-or-no _ a k);
+      right = λ k. rw (arrival-state m core) (arrival-right (stateOf m) (h .right a) core);
+      bare = h .bare;
+      names = h .names;
+      ready = h .ready;
+    })
+    (e .0)
+
+-- ---- any run
+pub ran-fit : (run : Events) → Fit (ran first run)
+ran-fit run = always Fit fit-next first run first-fit

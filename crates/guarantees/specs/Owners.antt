@@ -1,0 +1,362 @@
+-- Who owns a page after a run: what a reader takes to be the last granted transfer of the page, and the set-up line that named it.
+use mathlib.Core.Path.{_≡_, refl, sym, ap, subst, _∙_}
+use mathlib.Core.Bool.{Bool, true, false, _&&_}
+use mathlib.Core.List.{List, [], _∷_, _++_}
+use mathlib.Core.Logic.{_⊎_, inl, inr, ⊎-elim}
+use Prim.Native.Nat.{ℕ, _+_, _≤_, _<_}
+use native.Mathlib.Omega.{arith}
+use lib.Dec.{leb, ltb}
+use borrow.Author.Tests.{leb-true, leb-false, ltb-true, ltb-false}
+use Rattle.rules.specs.Choice.{either, yes-or-no}
+use Rattle.cores.specs.Power.{isOn, isPending}
+use Rattle.cores.specs.Cores.{power}
+use Rattle.pages.specs.Window.{runOf}
+use Rattle.pages.specs.Owners.{owner, unowned-owner}
+use Rattle.pages.specs.Named.{isNamed, free-at}
+use Rattle.pages.specs.Naming.{naming, Granted, naming-granted, granted-inside, granted-outside}
+use Rattle.pages.specs.declared.Place.the-variants.{Page}
+use Rattle.pages.specs.declared.Naming.the-variants as Naming
+use Rattle.judging.specs.declared.Deed.{Deed}
+use Rattle.judging.specs.declared.Deed.the-variants.{Nothing, Move, Map, Unmap, Start, Stop, HandOver, Finish}
+use Rattle.calls.specs.Step.{State, called, applied, arrivedIn}
+use Rattle.calls.specs.Effects.{deedIn, after, Carries, owners-spared, movable, moved-inside, moved-outside}
+use Rattle.calls.specs.Kept.{Right}
+use Rattle.lines.specs.declared.Status.{Status}
+use Rattle.lines.specs.declared.Status.the-variants.{Accepted}
+use Rattle.lines.specs.declared.Frame.{Frame}
+use Rattle.lines.specs.declared.Frame.the-variants as Frame
+use Rattle.frames.specs.Frames.{Machine, first, framed, stateOf, performed}
+use Rattle.frames.specs.Stays.{framed-by, shown-not-told, settled, call-ends}
+use Rattle.frames.specs.declared.Reply.{Reply}
+use Rattle.frames.specs.declared.Reply.the-variants.{Told, Called}
+use Rattle.guarantees.specs.Runs.{Event, Events, next, reply, ran, ran-two, always}
+use Rattle.guarantees.specs.Fit.{Fit, first-fit, fit-next}
+
+-- ---- what names an owner
+-- A granted transfer of a page: the line is a call, it is accepted (its answer is no status), and what is done for it in
+-- the state that it meets is to move a run of pages, this one among them, to the world `to`.
+pub record Transfers (m : Machine) (e : Event) (page to : ℕ) : Type 0 where
+  pub core : ℕ
+  pub is-call : e .0 ≡ Frame.Call core
+  pub accepted : (why : Status) → reply m e ≡ Told why → ⊥
+  pub start : ℕ
+  pub count : ℕ
+  pub granted : deedIn (stateOf m) core (e .1) ≡ Move start count to
+  pub lowest : ℕ
+  pub lies : runOf (m .setup .site .window) start count ≡ Page lowest
+  pub low : lowest ≤ page
+  pub high : page < lowest + count
+
+-- A set-up line that names the page's owner: it is accepted, and the page is one of its run.
+pub record Names (m : Machine) (e : Event) (page to : ℕ) : Type 0 where
+  pub lowest : ℕ
+  pub count : ℕ
+  pub is-name : e .0 ≡ Frame.Name lowest count to
+  pub accepted : reply m e ≡ Told Accepted
+  pub low : lowest ≤ page
+  pub high : page < lowest + count
+
+-- ---- where in a run they stand
+-- No line of a run is a granted transfer of the page.
+unfoldable pub Unmoved : Machine → Events → ℕ → Type 0
+Unmoved m [] page = Unit {0}
+Unmoved m (e ∷ rest) page = ((to : ℕ) → Transfers m e page to → ⊥) × Unmoved (next m e) rest page
+
+-- No line of a run names it.
+unfoldable pub Unnamed : Machine → Events → ℕ → Type 0
+Unnamed m [] page = Unit {0}
+Unnamed m (e ∷ rest) page = ((to : ℕ) → Names m e page to → ⊥) × Unnamed (next m e) rest page
+
+-- The last granted transfer of the page in a run: the line where it stands, granted in the machine that the lines before it
+-- leave, and none among the lines after it.
+pub record LastTransfer (m : Machine) (run : Events) (page to : ℕ) : Type 0 where
+  pub before : Events
+  pub line : Event
+  pub later : Events
+  pub stands : run ≡ before ++ line ∷ later
+  pub granted : Transfers (ran m before) line page to
+  pub last : Unmoved (next (ran m before) line) later page
+
+-- The set-up line that names the page.
+pub record NamedBy (m : Machine) (run : Events) (page to : ℕ) : Type 0 where
+  pub before : Events
+  pub line : Event
+  pub later : Events
+  pub stands : run ≡ before ++ line ∷ later
+  pub named : Names (ran m before) line page to
+
+-- Who is named for a page by a run: by its last granted transfer; by the set-up line, if there was no transfer; and if there
+-- was neither, whoever owned it before, which is Root where the run starts at the first line.
+pub data Named (m : Machine) (run : Events) (page : ℕ) : ℕ → Type 0 where
+  by-transfer : {to : ℕ} → LastTransfer m run page to → Named m run page to
+  by-set-up : {to : ℕ} → Unmoved m run page → NamedBy m run page to → Named m run page to
+  as-before : Unmoved m run page → Unnamed m run page → Named m run page (owner (m .owners) page)
+
+-- ---- one line
+-- either of the two
+data Gives (m : Machine) (e : Event) (page to : ℕ) : Type 0 where
+  moves : Transfers m e page to → Gives m e page to
+  names : Names m e page to → Gives m e page to
+
+-- two that stand in one line name one world
+gives-one : {m : Machine} {e : Event} {page to other : ℕ} → Gives m e page to → Gives m e page other → to ≡ other
+gives-one {m} {e} {to = to} {other = other} (moves a) (moves b) =
+    let c : Frame.Call (a .core) ≡ Frame.Call (b .core) = sym (a .is-call) ∙ b .is-call in
+    let d : a .core ≡ b .core = cc in
+    let g : Move (a .start) (a .count) to ≡ Move (b .start) (b .count) other = sym (a .granted) ∙ rw d (b .granted) in
+    cc
+gives-one (moves a) (names b) = let c = sym (a .is-call) ∙ b .is-name in let z : _≡_ {A = ℕ} 0 1 = cc in absurd (omega arith)
+gives-one (names a) (moves b) = let c = sym (a .is-name) ∙ b .is-call in let z : _≡_ {A = ℕ} 0 1 = cc in absurd (omega arith)
+gives-one (names a) (names b) = let c = sym (a .is-name) ∙ b .is-name in cc
+
+-- what a line makes of a page's owner
+data Outcome (m : Machine) (e : Event) (page : ℕ) (o : Machine) : Type 0 where
+  gave : (to : ℕ) → Gives m e page to → owner (o .owners) page ≡ to → Outcome m e page o
+  kept : ((to : ℕ) → Gives m e page to → ⊥) → owner (o .owners) page ≡ owner (m .owners) page → Outcome m e page o
+
+-- a frame of another kind gives nothing
+other-kind : {m : Machine} {e : Event} {page to : ℕ} → ((core : ℕ) → e .0 ≡ Frame.Call core → ⊥) → ((lowest count to : ℕ) → e .0 ≡ Frame.Name lowest count to → ⊥) → Gives m e page to → ⊥
+other-kind c n (moves t) = c (t .core) (t .is-call)
+other-kind c n (names t) = n (t .lowest) (t .count) _ (t .is-name)
+
+-- a page is one of a run, or not
+inside-or-not : {P : Type 0} (lowest count page : ℕ) → (lowest ≤ page → page < lowest + count → P) → ((lowest ≤ page → page < lowest + count → ⊥) → P) → P
+inside-or-not lowest count page y n =
+    either (leb lowest page)
+    (λ a. either (ltb page (lowest + count)) (λ b. y (leb-true _ _ a) (ltb-true _ _ b)) (λ b. n (λ h l. omega (arith, ltb-false page (lowest + count) b))))
+    (λ a. n (λ h l. omega (arith, leb-false lowest page a)))
+
+-- what is done is a transfer, or leaves every owner
+transfer-or-not : {P : Type 0} (d : Deed) → ((start count to : ℕ) → d ≡ Move start count to → P) → ((Carries d → ⊥) → P) → P
+transfer-or-not Nothing y n = n (λ k. k)
+transfer-or-not (Move start count to) y n = y start count to refl
+transfer-or-not (Map m) y n = n (λ k. k)
+transfer-or-not (Unmap virt size) y n = n (λ k. k)
+transfer-or-not (Start c a x) y n = n (λ k. k)
+transfer-or-not Stop y n = n (λ k. k)
+transfer-or-not (HandOver to) y n = n (λ k. k)
+transfer-or-not Finish y n = n (λ k. k)
+
+module _ (m : Machine) (fit : Fit m) (e : Event) (page : ℕ) where
+  -- an accepted naming
+  naming-outcome : (lowest count to : ℕ) → m .setup .ready ≡ true → naming (m .owners) (m .named) (m .setup .site .window .pages) lowest count to .0 ≡ Naming.Done
+      → e .0 ≡ Frame.Name lowest count to → reply m e ≡ Told Accepted → (o : Machine) → o .owners ≡ naming (m .owners) (m .named) (m .setup .site .window .pages) lowest count to .1 .0
+      → Outcome m e page o
+  naming-outcome lowest count to a c is told o w =
+      let g = naming-granted (m .owners) (m .named) (m .setup .site .window .pages) lowest count to c in
+      let done = naming (m .owners) (m .named) (m .setup .site .window .pages) lowest count to .1 in
+      inside-or-not lowest count page
+      (λ h l. gave to (names (record { lowest = lowest; count = count; is-name = is; accepted = told; low = h; high = l }))
+      (rw w (granted-inside (m .owners) (m .named) (m .setup .site .window .pages) lowest count to page done g (fit .right a .whole .owners-whole) (fit .names) h l .0)))
+      (λ n. kept (λ u. none u n) (rw w (granted-outside (m .owners) (m .named) (m .setup .site .window .pages) lowest count to page done g n .0)))
+    where
+      none : (u : ℕ) → (lowest ≤ page → page < lowest + count → ⊥) → Gives m e page u → ⊥
+      none u n (moves t) = let c = sym (t .is-call) ∙ is in let z : _≡_ {A = ℕ} 0 1 = cc in omega arith
+      none u n (names t) =
+          let c : Frame.Name (t .lowest) (t .count) u ≡ Frame.Name lowest count to = sym (t .is-name) ∙ is in
+          let x : t .lowest ≡ lowest = cc in
+          let y : t .count ≡ count = cc in
+          n (omega (arith, t .low)) (omega (arith, t .high))
+
+  -- an accepted call
+  call-outcome : (core : ℕ) → m .setup .ready ≡ true → e .0 ≡ Frame.Call core → ((why : Status) → reply m e ≡ Told why → ⊥)
+      → (o : Machine) → o .owners ≡ after (stateOf m) core (e .1) .owners → Outcome m e page o
+  call-outcome core a is ok o w =
+      transfer-or-not (deedIn (stateOf m) core (e .1))
+      (λ start count to d.
+      let v = movable (stateOf m) core (e .1) start count to d in
+      inside-or-not (v .first) count page
+      (λ h l. gave to (moves (record { core = core; is-call = is; accepted = ok; start = start; count = count; granted = d; lowest = v .first; lies = v .lies; low = h; high = l }))
+      (rw w (moved-inside (stateOf m) core (e .1) start count to d page (fit .right a .whole .owners-whole) h l .1)))
+      (λ n. kept (λ u. elsewhere u start count to d (v .first) (v .lies) n) (rw w (moved-outside (stateOf m) core (e .1) start count to d page n))))
+      (λ n. kept (λ u. still u n) (rw w (ap (λ (t : List ℕ). owner t page) (owners-spared (stateOf m) core (e .1) n))))
+    where
+      same-core : (c : ℕ) → e .0 ≡ Frame.Call c → c ≡ core
+      same-core c is2 = let k : Frame.Call c ≡ Frame.Call core = sym is2 ∙ is in cc
+
+      elsewhere : (u start count to : ℕ) → deedIn (stateOf m) core (e .1) ≡ Move start count to → (lowest : ℕ) → runOf (m .setup .site .window) start count ≡ Page lowest
+          → (lowest ≤ page → page < lowest + count → ⊥) → Gives m e page u → ⊥
+      elsewhere u start count to d lowest lies n (names t) = let c = sym (t .is-name) ∙ is in let z : _≡_ {A = ℕ} 0 1 = cc in omega arith
+      elsewhere u start count to d lowest lies n (moves t) =
+          let c : t .core ≡ core = same-core (t .core) (t .is-call) in
+          let g : Move (t .start) (t .count) u ≡ Move start count to = sym (rw c at (t .granted)) ∙ d in
+          let x : t .start ≡ start = cc in
+          let y : t .count ≡ count = cc in
+          let k : Page (t .lowest) ≡ Page lowest = sym (rw (x, y) at (t .lies)) ∙ lies in
+          let f : t .lowest ≡ lowest = cc in
+          n (omega (arith, t .low)) (omega (arith, t .high))
+
+      still : (u : ℕ) → (Carries (deedIn (stateOf m) core (e .1)) → ⊥) → Gives m e page u → ⊥
+      still u n (names t) = let c = sym (t .is-name) ∙ is in let z : _≡_ {A = ℕ} 0 1 = cc in omega arith
+      still u n (moves t) =
+          let c : t .core ≡ core = same-core (t .core) (t .is-call) in
+          let g : deedIn (stateOf m) core (e .1) ≡ Move (t .start) (t .count) u = rw c at (t .granted) in
+          n (rw g tt)
+
+  -- any line
+  outcome : Outcome m e page (next m e)
+  unfolding performed
+  outcome =
+      framed-by m (e .1) (λ (g : Frame) (o : Machine × Reply). e .0 ≡ g → framed m (e .0) (e .1) ≡ o → Outcome m e page (o .0))
+      (λ why is so. kept (λ u. other-kind (λ c k. let z : _≡_ {A = ℕ} 0 1 = cc in omega arith) (λ a b c k. let z : _≡_ {A = ℕ} 0 1 = cc in omega arith)) refl)
+      (λ g why d is so. kept (λ u. refusal why d so u) refl)
+      (λ base pages cores a b is so. kept (λ u. other-kind (λ c k. let z : _≡_ {A = ℕ} 0 1 = cc in omega arith) (λ a b c k. let z : _≡_ {A = ℕ} 0 1 = cc in omega arith)) refl)
+      (λ lowest last kind number a b c is so. kept (λ u. other-kind (λ c k. let z : _≡_ {A = ℕ} 0 1 = cc in omega arith) (λ a b c k. let z : _≡_ {A = ℕ} 0 1 = cc in omega arith)) refl)
+      (λ lowest count to a b c is so. naming-outcome lowest count to a c is (ap (λ (o : Machine × Reply). o .1) so) _ refl)
+      (λ core a b c is so. call-outcome core a is (λ why k. shown-not-told _ _ _ _ why (sym (ap (λ (o : Machine × Reply). o .1) so) ∙ k)) _ refl)
+      (λ core a b c is so. kept (λ u. other-kind (λ c k. let z : _≡_ {A = ℕ} 0 1 = cc in omega arith) (λ a b c k. let z : _≡_ {A = ℕ} 0 1 = cc in omega arith)) refl)
+      (e .0) refl refl
+    where
+      refusal : (why : Status) → (why ≡ Accepted → ⊥) → framed m (e .0) (e .1) ≡ (m, Told why) → (u : ℕ) → Gives m e page u → ⊥
+      refusal why d so u (moves t) = t .accepted why (ap (λ (o : Machine × Reply). o .1) so)
+      refusal why d so u (names t) = let k : Told why ≡ Told Accepted = sym (ap (λ (o : Machine × Reply). o .1) so) ∙ t .accepted in d cc
+
+  -- so what a line names is the owner after it
+  gives-is : (to : ℕ) → Gives m e page to → owner (next m e .owners) page ≡ to
+  gives-is to g = after-it outcome
+    where
+      after-it : Outcome m e page (next m e) → owner (next m e .owners) page ≡ to
+      after-it (gave u h o) = o ∙ gives-one h g
+      after-it (kept n o) = absurd (n to g)
+
+  -- and without a name the owner stays
+  gives-not : ((to : ℕ) → Transfers m e page to → ⊥) → ((to : ℕ) → Names m e page to → ⊥) → owner (next m e .owners) page ≡ owner (m .owners) page
+  gives-not t n = after-it outcome
+    where
+      after-it : Outcome m e page (next m e) → owner (next m e .owners) page ≡ owner (m .owners) page
+      after-it (gave u (moves h) o) = absurd (t u h)
+      after-it (gave u (names h) o) = absurd (n u h)
+      after-it (kept n o) = o
+
+-- ---- set-up comes before the first call, and names a page once
+module _ (m : Machine) (e : Event) (page : ℕ) where
+  -- a granted transfer is a call, and so set-up has ended after it
+  transfer-ends : (to : ℕ) → Transfers m e page to → next m e .setup .ended ≡ true
+  transfer-ends to t = by-reply (reply m e) refl
+    where
+      by-reply : (r : Reply) → reply m e ≡ r → next m e .setup .ended ≡ true
+      by-reply (Told why) k = absurd (t .accepted why k)
+      by-reply (Called core world x) k = call-ends m (e .0) (e .1) core world x k
+
+  -- a page that was named stays named
+  named-stays : Fit m → isNamed (m .named) page ≡ true → isNamed (next m e .named) page ≡ true
+  unfolding performed
+  named-stays fit k =
+      framed-by m (e .1) (λ (g : Frame) (o : Machine × Reply). isNamed (o .0 .named) page ≡ true)
+      (λ why. k) (λ g why d. k) (λ base pages cores a b. k) (λ lowest last kind number a b c. k)
+      (λ lowest count to a b c.
+      let g = naming-granted (m .owners) (m .named) (m .setup .site .window .pages) lowest count to c in
+      inside-or-not lowest count page
+      (λ h l. granted-inside (m .owners) (m .named) (m .setup .site .window .pages) lowest count to page _ g (fit .right a .whole .owners-whole) (fit .names) h l .1)
+      (λ n. granted-outside (m .owners) (m .named) (m .setup .site .window .pages) lowest count to page _ g n .1 ∙ k))
+      (λ core a b c. k) (λ core a b c. k) (e .0)
+
+  -- what an accepted naming met, and what it leaves
+  record Timely (to : ℕ) (o : Machine) : Type 0 where
+    in-time : m .setup .ended ≡ false
+    free : isNamed (m .named) page ≡ false
+    marked : isNamed (o .named) page ≡ true
+
+  naming-is : Fit m → (to : ℕ) → Names m e page to → Timely to (next m e)
+  unfolding performed
+  naming-is fit to t =
+      framed-by m (e .1) (λ (g : Frame) (o : Machine × Reply). e .0 ≡ g → framed m (e .0) (e .1) ≡ o → Timely to (o .0))
+      (λ why is so. absurd (let z : _≡_ {A = ℕ} 0 1 = other is in omega arith))
+      (λ g why d is so. absurd (let k : Told why ≡ Told Accepted = sym (ap (λ (o : Machine × Reply). o .1) so) ∙ t .accepted in d cc))
+      (λ base pages cores a b is so. absurd (let k = sym (t .is-name) ∙ is in let z : _≡_ {A = ℕ} 0 1 = cc in omega arith))
+      (λ lowest last kind number a b c is so. absurd (let k = sym (t .is-name) ∙ is in let z : _≡_ {A = ℕ} 0 1 = cc in omega arith))
+      (λ lowest count u a b c is so.
+      let k : Frame.Name (t .lowest) (t .count) to ≡ Frame.Name lowest count u = sym (t .is-name) ∙ is in
+      let x : t .lowest ≡ lowest = cc in
+      let y : t .count ≡ count = cc in
+      let h : lowest ≤ page = omega (arith, t .low) in
+      let l : page < lowest + count = omega (arith, t .high) in
+      let g = naming-granted (m .owners) (m .named) (m .setup .site .window .pages) lowest count u c in
+      record {
+        in-time = b;
+        free = free-at (m .named) lowest count page (g .free) h l;
+        marked = granted-inside (m .owners) (m .named) (m .setup .site .window .pages) lowest count u page _ g (fit .right a .whole .owners-whole) (fit .names) h l .1;
+      })
+      (λ core a b c is so. absurd (let k = sym (t .is-name) ∙ is in let z : _≡_ {A = ℕ} 0 1 = cc in omega arith))
+      (λ core a b c is so. absurd (let k = sym (t .is-name) ∙ is in let z : _≡_ {A = ℕ} 0 1 = cc in omega arith))
+      (e .0) refl refl
+    where
+      other : {why : Status} → e .0 ≡ Frame.Refused why → _≡_ {A = ℕ} 0 1
+      other is = let k = sym (t .is-name) ∙ is in cc
+
+module _ (page : ℕ) where
+  -- once set-up has ended it has ended for good
+  ended-stays : (run : Events) (m : Machine) → m .setup .ended ≡ true → ran m run .setup .ended ≡ true
+  ended-stays run m k = always (λ (q : Machine). q .setup .ended ≡ true) (λ q e h. settled q (e .0) (e .1) h .ended) m run k
+
+  -- then no page is named
+  ended-unnamed : (run : Events) (m : Machine) → Fit m → m .setup .ended ≡ true → Unnamed m run page
+  unfolding Unnamed
+  ended-unnamed [] m fit k = tt
+  ended-unnamed (e ∷ rest) m fit k =
+      (λ to t. yes-or-no _ k (naming-is m e page fit to t .in-time), ended-unnamed rest (next m e) (fit-next m e fit) (settled m (e .0) (e .1) k .ended))
+
+  -- nor is one that was named before
+  marked-unnamed : (run : Events) (m : Machine) → Fit m → isNamed (m .named) page ≡ true → Unnamed m run page
+  unfolding Unnamed
+  marked-unnamed [] m fit k = tt
+  marked-unnamed (e ∷ rest) m fit k =
+      (λ to t. yes-or-no _ k (naming-is m e page fit to t .free), marked-unnamed rest (next m e) (fit-next m e fit) (named-stays m e page fit k))
+
+  -- what comes after a line of a run
+  unmoved-later : (before : Events) (m : Machine) (e : Event) (later : Events) → Unmoved m (before ++ e ∷ later) page → Unmoved (next (ran m before) e) later page
+  unfolding Unmoved ran
+  unmoved-later [] m e later u = u .1
+  unmoved-later (b ∷ before) m e later u = unmoved-later before (next m b) e later (u .1)
+
+  -- ---- over runs
+  -- without a name the owner stays
+  keeps : (run : Events) (m : Machine) → Fit m → Unmoved m run page → Unnamed m run page → owner (ran m run .owners) page ≡ owner (m .owners) page
+  unfolding Unmoved Unnamed ran
+  keeps [] m fit u n = refl
+  keeps (e ∷ rest) m fit u n = keeps rest (next m e) (fit-next m e fit) (u .1) (n .1) ∙ gives-not m fit e page (u .0) (n .0)
+
+  -- the run with one line before it
+  longer : (m : Machine) → Fit m → (e : Event) (rest : Events) (to : ℕ) → Named (next m e) rest page to → Named m (e ∷ rest) page to
+  unfolding Unmoved Unnamed ran
+  longer m fit e rest to (by-transfer l) =
+      by-transfer (record { before = e ∷ l .before; line = l .line; later = l .later; stands = ap (λ (q : Events). e ∷ q) (l .stands); granted = l .granted; last = l .last })
+  longer m fit e rest to (by-set-up u n) =
+      by-set-up (
+        λ v t.
+            yes-or-no _ (ended-stays (n .before) (next m e) (transfer-ends m e page v t))
+            (naming-is (ran (next m e) (n .before)) (n .line) page (always Fit fit-next (next m e) (n .before) (fit-next m e fit)) to (n .named) .in-time),
+        u,
+      )
+      (record { before = e ∷ n .before; line = n .line; later = n .later; stands = ap (λ (q : Events). e ∷ q) (n .stands); named = n .named })
+  longer m fit e rest to (as-before u n) = now (outcome m fit e page)
+    where
+      now : Outcome m e page (next m e) → Named m (e ∷ rest) page (owner (next m e .owners) page)
+      now (gave v (moves t) o) = rw o (by-transfer (record { before = []; line = e; later = rest; stands = refl; granted = t; last = u }))
+      now (gave v (names t) o) =
+          rw o (by-set-up (λ w h. let k = sym (h .is-call) ∙ t .is-name in let z : _≡_ {A = ℕ} 0 1 = cc in omega arith, u) (record { before = []; line = e; later = rest; stands = refl; named = t }))
+      now (kept g o) = rw o (as-before (λ w h. g w (moves h), u) (λ w h. g w (names h), n))
+
+  -- The owner of a page after a run is the one whom the run names.
+  pub owner-named : (run : Events) (m : Machine) → Fit m → Named m run page (owner (ran m run .owners) page)
+  unfolding ran Unmoved Unnamed
+  owner-named [] m fit = as-before tt tt
+  owner-named (e ∷ rest) m fit = longer m fit e rest _ (owner-named rest (next m e) (fit-next m e fit))
+
+  -- And nobody else is named.
+  pub named-owner : (run : Events) (m : Machine) (to : ℕ) → Fit m → Named m run page to → owner (ran m run .owners) page ≡ to
+  unfolding ran
+  named-owner run m to fit (by-transfer l) =
+      let n = ran m (l .before) in
+      let f = always Fit fit-next m (l .before) fit in
+      rw (l .stands, ran-two m (l .before) (l .line ∷ l .later))
+      (keeps (l .later) (next n (l .line)) (fit-next n (l .line) f) (l .last) (ended-unnamed (l .later) (next n (l .line)) (fit-next n (l .line) f) (transfer-ends n (l .line) page to (l .granted)))
+      ∙ gives-is n f (l .line) page to (moves (l .granted)))
+  named-owner run m to fit (by-set-up u l) =
+      let n = ran m (l .before) in
+      let f = always Fit fit-next m (l .before) fit in
+      rw (l .stands, ran-two m (l .before) (l .line ∷ l .later))
+      (keeps (l .later) (next n (l .line)) (fit-next n (l .line) f) (unmoved-later (l .before) m (l .line) (l .later) (rw (l .stands) at u))
+      (marked-unnamed (l .later) (next n (l .line)) (fit-next n (l .line) f) (naming-is n (l .line) page f to (l .named) .marked))
+      ∙ gives-is n f (l .line) page to (names (l .named)))
+  named-owner run m to fit (as-before u n) = keeps run m fit u n

@@ -1,0 +1,134 @@
+-- What the monitor guarantees, in plain statements: of the machine after any run, and of each line by itself.
+use mathlib.Core.Path.{_≡_}
+use mathlib.Core.Bool.{Bool, true, false}
+use mathlib.Core.List.{List, [], _∷_, _++_}
+use mathlib.Core.Option.{some}
+use Prim.Native.Nat.{ℕ, _+_, _-_, _^_, _≤_, _<_}
+use lib.ListN.{length, getD}
+use Rattle.rules.specs.Choice.{pick}
+use Rattle.rules.specs.declared.Reason.{Reason}
+use Rattle.ledger.specs.Ledger.{handler}
+use Rattle.identifiers.specs.Identifier.{identifierOf, matched, admitted}
+use Rattle.registers.specs.Registers.{saved, kept}
+use Rattle.cores.specs.Power.{isOn, isPending}
+use Rattle.cores.specs.Cores.{power, turn}
+use Rattle.pages.specs.Owners.{owner, countOwned}
+use Rattle.pages.specs.declared.Window.{Window}
+use Rattle.mapping.specs.Lists.{held}
+use Rattle.mapping.specs.Mapping.{holds, deciding, leadOf}
+use Rattle.mapping.specs.Sound.{covers}
+use Rattle.mapping.specs.Once.{coverings, countCovered}
+use Rattle.mapping.specs.declared.Mapping.{Mapping}
+use Rattle.mapping.specs.declared.Lead.the-variants.{To}
+use Rattle.judging.specs.Names.{normal}
+use Rattle.judging.specs.Judge.{calledBy, argsOf, found}
+use Rattle.judging.specs.Grounds.{Calls}
+use Rattle.judging.specs.declared.Answer.the-variants.{No}
+use Rattle.judging.specs.declared.Deed.the-variants.{HandOver, Finish}
+use Rattle.calls.specs.Answers.{minus}
+use Rattle.calls.specs.Step.{sight, callerOf, judgedIn}
+use Rattle.calls.specs.Effects.{deedIn, answerIn, Receives}
+use Rattle.lines.specs.declared.Status.{Status}
+use Rattle.lines.specs.declared.Status.the-variants.{Accepted}
+use Rattle.lines.specs.declared.Frame.{Frame}
+use Rattle.lines.specs.declared.Frame.the-variants as Frame
+use Rattle.text.specs.Text.{statusText, callText}
+use Rattle.frames.specs.Frames.{Machine, machine, stateOf, over}
+use Rattle.frames.specs.declared.Reply.{Reply}
+use Rattle.frames.specs.declared.Reply.the-variants.{Told}
+use Rattle.stream.specs.Run.{textOf}
+use Rattle.guarantees.specs.Runs.{Event, Events}
+use Rattle.guarantees.specs.Owners.{Named}
+
+abbrev pub window : Machine → Window
+window m = m .setup .site .window
+
+-- the owner of a page, and the mappings of a world
+abbrev pub ownerIn : Machine → ℕ → ℕ
+ownerIn m page = owner (m .owners) page
+
+abbrev pub mapped : Machine → ℕ → List Mapping
+mapped m world = held (m .lists) world
+
+-- how many mappings of a list hold a virtual address
+unfoldable pub holdings : List Mapping → ℕ → ℕ
+holdings [] x = 0
+holdings (m ∷ l) x = pick (holds x m) 1 0 + holdings l x
+
+-- ---- after a run from a machine m, of the machine and the answers that it leaves
+pub record Guaranteed (m : Machine) (run : Events) (last : Machine) (answers : List Reply) : Type 0 where
+  -- Each page's owner is the one whom the page's last granted transfer names, or else the set-up line, or else who it was before.
+  pub owner-named : (page : ℕ) → Named m run page (ownerIn last page)
+  -- Nobody but the owner is so named: each page has one owner.
+  pub owner-alone : (page to : ℕ) → Named m run page to → ownerIn last page ≡ to
+  -- The owner is one of the four worlds.
+  pub owner-world : (page : ℕ) → ownerIn last page ≤ 3
+  -- A world's mappings cover only pages which it owns.
+  pub mapped-owned : (world page : ℕ) → covers (window last) (mapped last world) page ≡ true → ownerIn last page ≡ world
+  -- Each page is covered at most once in a world.
+  pub mapped-once : (world page : ℕ) → coverings (window last) (mapped last world) page ≤ 1
+  -- No two mappings of a world hold one virtual address.
+  pub virtual-once : (world x : ℕ) → holdings (mapped last world) x ≤ 1
+  -- No page is mapped by two worlds.
+  pub one-world : (u v page : ℕ) → covers (window last) (mapped last u) page ≡ true → covers (window last) (mapped last v) page ≡ true → u ≡ v
+  -- No world has more pages mapped than it owns.
+  pub mapped-few : (world : ℕ) → countCovered (window last) (mapped last world) ≤ countOwned (last .owners) (window last .pages) world
+  -- A world holds at most sixteen mappings.
+  pub sixteen : (world : ℕ) → length (mapped last world) ≤ 16
+  -- The sum that an address leads to does not wrap: it is exact.
+  pub exact : (world x : ℕ) (n : Mapping) → deciding (mapped last world) x ≡ some n → leadOf (mapped last world) x ≡ To (n .phys + (x - n .virt)) (n .attr)
+  -- A core that is ON runs Normal, Secure or Realm.
+  pub runs : (core : ℕ) → isOn (power (last .powers) core) ≡ true → Calls (turn (last .turns) core .world)
+  -- Once set-up has said how many cores there are, no other is ON or pending.
+  pub absent : (core : ℕ) → last .setup .ready ≡ true → last .setup .site .cores ≤ core → (isOn (power (last .powers) core) ≡ false) × (isPending (power (last .powers) core) ≡ false)
+  -- Each line has one answer.
+  pub answered : length answers ≡ length run
+
+-- ---- of the answers
+-- the texts of answers, one after the other
+unfoldable pub texts : List Reply → List ℕ
+texts [] = []
+texts (r ∷ rest) = textOf r ++ texts rest
+
+-- an answer's text: a0 and a status, or a1, the core, the world and its x0 to x3; and a newline
+pub data Shape : List ℕ → Type 0 where
+  status : (why : Status) → Shape (statusText why)
+  call : (core world x0 x1 x2 x3 : ℕ) → Shape (callText core world x0 x1 x2 x3)
+
+-- ---- of one line, met by a machine m: what it leaves, and how it is answered
+-- its answer is no status: it is an accepted call
+abbrev pub Taken : Reply → Type 0
+Taken answer = (why : Status) → answer ≡ Told why → ⊥
+
+-- the machine after a refused call: the caller has its eight numbers back, with the refusal in x0, and set-up has ended
+abbrev pub denied : Machine → ℕ → List ℕ → Reason → Machine
+denied m core xs r =
+    let caller = callerOf (stateOf m) core in
+    machine (over (m .setup)) (m .named) (m .ledger) (m .owners)
+    (kept (kept (m .saved) core caller xs) core caller ((2 ^ 64 - minus r) ∷ []))
+    (m .powers) (m .turns) (m .lists)
+
+pub record Heeded (m : Machine) (e : Event) (last : Machine) (answer : Reply) : Type 0 where
+  -- A refused frame changes nothing.
+  pub refused-frame : (why : Status) → answer ≡ Told why → (why ≡ Accepted → ⊥) → last ≡ m
+  -- A refused call changes nothing but x0 of the caller.
+  pub refused-call : (core : ℕ) (r : Reason) → e .0 ≡ Frame.Call core → Taken answer → answerIn (stateOf m) core (e .1) ≡ No r → last ≡ denied m core (e .1) r
+  -- A call changes no number saved for another core or another world, but for the world that it hands over to or finishes into.
+  pub call-saved : (core c u j : ℕ) → e .0 ≡ Frame.Call core → (core ≡ c → callerOf (stateOf m) core ≡ u → ⊥) → (core ≡ c → Receives (deedIn (stateOf m) core (e .1)) u → ⊥) → saved (last .saved) c u j ≡ saved (m .saved) c u j
+  -- So, except for a hand-over or its finish, a call changes no number saved for another world.
+  pub other-worlds : (core c u j : ℕ) → e .0 ≡ Frame.Call core → (callerOf (stateOf m) core ≡ u → ⊥) → ((to : ℕ) → deedIn (stateOf m) core (e .1) ≡ HandOver to → ⊥) → (deedIn (stateOf m) core (e .1) ≡ Finish → ⊥) → saved (last .saved) c u j ≡ saved (m .saved) c u j
+  -- A hand-over gives the receiver x0 to x7; its other number stays.
+  pub handed : (core to j : ℕ) → e .0 ≡ Frame.Call core → Taken answer → length (e .1) ≡ 8 → deedIn (stateOf m) core (e .1) ≡ HandOver to → j < 8 → saved (last .saved) core to j ≡ getD (e .1) j 0
+  pub handed-rest : (core to j : ℕ) → e .0 ≡ Frame.Call core → Taken answer → length (e .1) ≡ 8 → deedIn (stateOf m) core (e .1) ≡ HandOver to → 8 ≤ j → saved (last .saved) core to j ≡ saved (m .saved) core to j
+  -- A finish gives Normal the finisher's x1 to x4 as x0 to x3; Normal's other numbers stay.
+  pub finished : (core j : ℕ) → e .0 ≡ Frame.Call core → Taken answer → length (e .1) ≡ 8 → deedIn (stateOf m) core (e .1) ≡ Finish → j < 4 → saved (last .saved) core normal j ≡ getD (e .1) (1 + j) 0
+  pub finished-rest : (core j : ℕ) → e .0 ≡ Frame.Call core → Taken answer → deedIn (stateOf m) core (e .1) ≡ Finish → 4 ≤ j → saved (last .saved) core normal j ≡ saved (m .saved) core normal j
+  -- An arrival changes no number but Normal's on its core.
+  pub arrival-saved : (core c u j : ℕ) → e .0 ≡ Frame.Arrival core → (core ≡ c → normal ≡ u → ⊥) → saved (last .saved) c u j ≡ saved (m .saved) c u j
+  -- No other line changes a saved number.
+  pub other-saved : ((core : ℕ) → e .0 ≡ Frame.Call core → ⊥) → ((core : ℕ) → e .0 ≡ Frame.Arrival core → ⊥) → last .saved ≡ m .saved
+  -- A call that passes the test on bits 23 to 16 is judged by the handler that the ledger has for its type and owner, or by none.
+  pub dispatched : (core : ℕ) → e .0 ≡ Frame.Call core → Taken answer → admitted (calledBy (e .1)) ≡ true
+      → judgedIn (stateOf m) core (e .1) ≡ found (sight (stateOf m) core .view) (argsOf (calledBy (e .1)) (e .1)) (matched (identifierOf (getD (e .1) 0 0))) (handler (m .ledger) (calledBy (e .1) .fast) (calledBy (e .1) .owner))
+  -- Once set-up has ended the ledger stays.
+  pub ledger-stays : m .setup .ended ≡ true → last .ledger ≡ m .ledger
