@@ -54,7 +54,7 @@ pub record Names (m : Machine) (e : Event) (page to : ℕ) : Type 0 where
   pub is-name : e .0 ≡ Frame.Name lowest count to
   pub accepted : reply m e ≡ Told Accepted
   pub low : lowest ≤ page
-  pub high : page < lowest + count
+  pub below : page < lowest + count
 
 -- ---- where in a run they stand
 -- No line of a run is a granted transfer of the page.
@@ -146,7 +146,7 @@ module _ (m : Machine) (fit : Fit m) (e : Event) (page : ℕ) where
       let g = naming-granted (m .owners) (m .named) (m .setup .site .window .pages) lowest count to c in
       let done = naming (m .owners) (m .named) (m .setup .site .window .pages) lowest count to .1 in
       inside-or-not lowest count page
-      (λ h l. gave to (names (record { lowest = lowest; count = count; is-name = is; accepted = told; low = h; high = l }))
+      (λ h l. gave to (names (record { lowest = lowest; count = count; is-name = is; accepted = told; low = h; below = l }))
       (rw w (granted-inside (m .owners) (m .named) (m .setup .site .window .pages) lowest count to page done g (fit .right a .whole .owners-whole) (fit .names) h l .0)))
       (λ n. kept (λ u. none u n) (rw w (granted-outside (m .owners) (m .named) (m .setup .site .window .pages) lowest count to page done g n .0)))
     where
@@ -156,7 +156,7 @@ module _ (m : Machine) (fit : Fit m) (e : Event) (page : ℕ) where
           let c : Frame.Name (t .lowest) (t .count) u ≡ Frame.Name lowest count to = sym (t .is-name) ∙ is in
           let x : t .lowest ≡ lowest = cc in
           let y : t .count ≡ count = cc in
-          n (omega (arith, t .low)) (omega (arith, t .high))
+          n (omega (arith, t .low)) (omega (arith, t .below))
 
   -- an accepted call
   call-outcome : (core : ℕ) → m .setup .ready ≡ true → e .0 ≡ Frame.Call core → ((why : Status) → reply m e ≡ Told why → ⊥)
@@ -270,7 +270,7 @@ module _ (m : Machine) (e : Event) (page : ℕ) where
       let x : t .lowest ≡ lowest = cc in
       let y : t .count ≡ count = cc in
       let h : lowest ≤ page = omega (arith, t .low) in
-      let l : page < lowest + count = omega (arith, t .high) in
+      let l : page < lowest + count = omega (arith, t .below) in
       let g = naming-granted (m .owners) (m .named) (m .setup .site .window .pages) lowest count u c in
       record {
         in-time = b;
