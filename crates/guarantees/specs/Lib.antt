@@ -1,4 +1,5 @@
 pub mod Runs
+pub mod Named
 pub mod Fit
 pub mod Owners
 pub mod Entries

@@ -1,4 +1,4 @@
--- Who owns a page after a run: what a reader takes to be the last granted transfer of the page, and the set-up line that named it.
+-- The owner of a page after a run is the one whom the run names, and nobody else is named.
 use mathlib.Core.Path.{_≡_, refl, sym, ap, subst, _∙_}
 use mathlib.Core.Bool.{Bool, true, false, _&&_}
 use mathlib.Core.List.{List, [], _∷_, _++_}
@@ -29,68 +29,9 @@ use Rattle.frames.specs.Frames.{Machine, first, framed, stateOf, performed}
 use Rattle.frames.specs.Stays.{framed-by, shown-not-told, settled, call-ends}
 use Rattle.frames.specs.declared.Reply.{Reply}
 use Rattle.frames.specs.declared.Reply.the-variants.{Told, Called}
-use Rattle.guarantees.specs.Runs.{Event, Events, next, reply, ran, ran-two, always}
-use Rattle.guarantees.specs.Fit.{Fit, first-fit, fit-next}
-
--- ---- what names an owner
--- A granted transfer of a page: the line is a call, it is accepted (its answer is no status), and what is done for it in
--- the state that it meets is to move a run of pages, this one among them, to the world `to`.
-pub record Transfers (m : Machine) (e : Event) (page to : ℕ) : Type 0 where
-  pub core : ℕ
-  pub is-call : e .0 ≡ Frame.Call core
-  pub accepted : (why : Status) → reply m e ≡ Told why → ⊥
-  pub start : ℕ
-  pub count : ℕ
-  pub granted : deedIn (stateOf m) core (e .1) ≡ Move start count to
-  pub lowest : ℕ
-  pub lies : runOf (m .setup .site .window) start count ≡ Page lowest
-  pub low : lowest ≤ page
-  pub high : page < lowest + count
-
--- A set-up line that names the page's owner: it is accepted, and the page is one of its run.
-pub record Names (m : Machine) (e : Event) (page to : ℕ) : Type 0 where
-  pub lowest : ℕ
-  pub count : ℕ
-  pub is-name : e .0 ≡ Frame.Name lowest count to
-  pub accepted : reply m e ≡ Told Accepted
-  pub low : lowest ≤ page
-  pub below : page < lowest + count
-
--- ---- where in a run they stand
--- No line of a run is a granted transfer of the page.
-unfoldable pub Unmoved : Machine → Events → ℕ → Type 0
-Unmoved m [] page = Unit {0}
-Unmoved m (e ∷ rest) page = ((to : ℕ) → Transfers m e page to → ⊥) × Unmoved (next m e) rest page
-
--- No line of a run names it.
-unfoldable pub Unnamed : Machine → Events → ℕ → Type 0
-Unnamed m [] page = Unit {0}
-Unnamed m (e ∷ rest) page = ((to : ℕ) → Names m e page to → ⊥) × Unnamed (next m e) rest page
-
--- The last granted transfer of the page in a run: the line where it stands, granted in the machine that the lines before it
--- leave, and none among the lines after it.
-pub record LastTransfer (m : Machine) (run : Events) (page to : ℕ) : Type 0 where
-  pub before : Events
-  pub line : Event
-  pub later : Events
-  pub stands : run ≡ before ++ line ∷ later
-  pub granted : Transfers (ran m before) line page to
-  pub last : Unmoved (next (ran m before) line) later page
-
--- The set-up line that names the page.
-pub record NamedBy (m : Machine) (run : Events) (page to : ℕ) : Type 0 where
-  pub before : Events
-  pub line : Event
-  pub later : Events
-  pub stands : run ≡ before ++ line ∷ later
-  pub named : Names (ran m before) line page to
-
--- Who is named for a page by a run: by its last granted transfer; by the set-up line, if there was no transfer; and if there
--- was neither, whoever owned it before, which is Root where the run starts at the first line.
-pub data Named (m : Machine) (run : Events) (page : ℕ) : ℕ → Type 0 where
-  by-transfer : {to : ℕ} → LastTransfer m run page to → Named m run page to
-  by-set-up : {to : ℕ} → Unmoved m run page → NamedBy m run page to → Named m run page to
-  as-before : Unmoved m run page → Unnamed m run page → Named m run page (owner (m .owners) page)
+use Rattle.guarantees.specs.Runs.{Event, Events, byte, next, reply, ran, ran-two, always}
+use Rattle.guarantees.specs.Named.{Transfers, Names, Unmoved, Unnamed, LastTransfer, NamedBy, Named, by-transfer, by-set-up, as-before}
+use Rattle.guarantees.specs.Fit.{Fit, fit-next}
 
 -- ---- one line
 -- either of the two
@@ -105,8 +46,8 @@ gives-one {m} {e} {to = to} {other = other} (moves a) (moves b) =
     let d : a .core ≡ b .core = cc in
     let g : Move (a .start) (a .count) to ≡ Move (b .start) (b .count) other = sym (a .granted) ∙ rw d (b .granted) in
     cc
-gives-one (moves a) (names b) = let c = sym (a .is-call) ∙ b .is-name in let z : _≡_ {A = ℕ} 0 1 = cc in absurd (omega arith)
-gives-one (names a) (moves b) = let c = sym (a .is-name) ∙ b .is-call in let z : _≡_ {A = ℕ} 0 1 = cc in absurd (omega arith)
+gives-one (moves a) (names b) = omega (arith, ap byte (sym (a .is-call) ∙ b .is-name))
+gives-one (names a) (moves b) = omega (arith, ap byte (sym (a .is-name) ∙ b .is-call))
 gives-one (names a) (names b) = let c = sym (a .is-name) ∙ b .is-name in cc
 
 -- what a line makes of a page's owner
@@ -115,9 +56,12 @@ data Outcome (m : Machine) (e : Event) (page : ℕ) (o : Machine) : Type 0 where
   kept : ((to : ℕ) → Gives m e page to → ⊥) → owner (o .owners) page ≡ owner (m .owners) page → Outcome m e page o
 
 -- a frame of another kind gives nothing
-other-kind : {m : Machine} {e : Event} {page to : ℕ} → ((core : ℕ) → e .0 ≡ Frame.Call core → ⊥) → ((lowest count to : ℕ) → e .0 ≡ Frame.Name lowest count to → ⊥) → Gives m e page to → ⊥
-other-kind c n (moves t) = c (t .core) (t .is-call)
-other-kind c n (names t) = n (t .lowest) (t .count) _ (t .is-name)
+other-kind : (m : Machine) (e : Event) (page : ℕ) {g : Frame} → e .0 ≡ g → (byte g ≡ 0x20 → ⊥) → (byte g ≡ 0x12 → ⊥) → (o : Machine) → o .owners ≡ m .owners → Outcome m e page o
+other-kind m e page {g} is c n o same = kept none (rw same)
+  where
+    none : (to : ℕ) → Gives m e page to → ⊥
+    none to (moves t) = c (ap byte (sym is ∙ t .is-call))
+    none to (names t) = n (ap byte (sym is ∙ t .is-name))
 
 -- a page is one of a run, or not
 inside-or-not : {P : Type 0} (lowest count page : ℕ) → (lowest ≤ page → page < lowest + count → P) → ((lowest ≤ page → page < lowest + count → ⊥) → P) → P
@@ -151,7 +95,7 @@ module _ (m : Machine) (fit : Fit m) (e : Event) (page : ℕ) where
       (λ n. kept (λ u. none u n) (rw w (granted-outside (m .owners) (m .named) (m .setup .site .window .pages) lowest count to page done g n .0)))
     where
       none : (u : ℕ) → (lowest ≤ page → page < lowest + count → ⊥) → Gives m e page u → ⊥
-      none u n (moves t) = let c = sym (t .is-call) ∙ is in let z : _≡_ {A = ℕ} 0 1 = cc in omega arith
+      none u n (moves t) = omega (arith, ap byte (sym (t .is-call) ∙ is))
       none u n (names t) =
           let c : Frame.Name (t .lowest) (t .count) u ≡ Frame.Name lowest count to = sym (t .is-name) ∙ is in
           let x : t .lowest ≡ lowest = cc in
@@ -176,7 +120,7 @@ module _ (m : Machine) (fit : Fit m) (e : Event) (page : ℕ) where
 
       elsewhere : (u start count to : ℕ) → deedIn (stateOf m) core (e .1) ≡ Move start count to → (lowest : ℕ) → runOf (m .setup .site .window) start count ≡ Page lowest
           → (lowest ≤ page → page < lowest + count → ⊥) → Gives m e page u → ⊥
-      elsewhere u start count to d lowest lies n (names t) = let c = sym (t .is-name) ∙ is in let z : _≡_ {A = ℕ} 0 1 = cc in omega arith
+      elsewhere u start count to d lowest lies n (names t) = omega (arith, ap byte (sym (t .is-name) ∙ is))
       elsewhere u start count to d lowest lies n (moves t) =
           let c : t .core ≡ core = same-core (t .core) (t .is-call) in
           let g : Move (t .start) (t .count) u ≡ Move start count to = sym (rw c at (t .granted)) ∙ d in
@@ -187,7 +131,7 @@ module _ (m : Machine) (fit : Fit m) (e : Event) (page : ℕ) where
           n (omega (arith, t .low)) (omega (arith, t .high))
 
       still : (u : ℕ) → (Carries (deedIn (stateOf m) core (e .1)) → ⊥) → Gives m e page u → ⊥
-      still u n (names t) = let c = sym (t .is-name) ∙ is in let z : _≡_ {A = ℕ} 0 1 = cc in omega arith
+      still u n (names t) = omega (arith, ap byte (sym (t .is-name) ∙ is))
       still u n (moves t) =
           let c : t .core ≡ core = same-core (t .core) (t .is-call) in
           let g : deedIn (stateOf m) core (e .1) ≡ Move (t .start) (t .count) u = rw c at (t .granted) in
@@ -198,13 +142,13 @@ module _ (m : Machine) (fit : Fit m) (e : Event) (page : ℕ) where
   unfolding performed
   outcome =
       framed-by m (e .1) (λ (g : Frame) (o : Machine × Reply). e .0 ≡ g → framed m (e .0) (e .1) ≡ o → Outcome m e page (o .0))
-      (λ why is so. kept (λ u. other-kind (λ c k. let z : _≡_ {A = ℕ} 0 1 = cc in omega arith) (λ a b c k. let z : _≡_ {A = ℕ} 0 1 = cc in omega arith)) refl)
+      (λ why is so. other-kind m e page is (λ k. omega arith) (λ k. omega arith) _ refl)
       (λ g why d is so. kept (λ u. refusal why d so u) refl)
-      (λ base pages cores a b is so. kept (λ u. other-kind (λ c k. let z : _≡_ {A = ℕ} 0 1 = cc in omega arith) (λ a b c k. let z : _≡_ {A = ℕ} 0 1 = cc in omega arith)) refl)
-      (λ lowest last kind number a b c is so. kept (λ u. other-kind (λ c k. let z : _≡_ {A = ℕ} 0 1 = cc in omega arith) (λ a b c k. let z : _≡_ {A = ℕ} 0 1 = cc in omega arith)) refl)
+      (λ base pages cores a b is so. other-kind m e page is (λ k. omega arith) (λ k. omega arith) _ refl)
+      (λ lowest last kind number a b c is so. other-kind m e page is (λ k. omega arith) (λ k. omega arith) _ refl)
       (λ lowest count to a b c is so. naming-outcome lowest count to a c is (ap (λ (o : Machine × Reply). o .1) so) _ refl)
       (λ core a b c is so. call-outcome core a is (λ why k. shown-not-told _ _ _ _ why (sym (ap (λ (o : Machine × Reply). o .1) so) ∙ k)) _ refl)
-      (λ core a b c is so. kept (λ u. other-kind (λ c k. let z : _≡_ {A = ℕ} 0 1 = cc in omega arith) (λ a b c k. let z : _≡_ {A = ℕ} 0 1 = cc in omega arith)) refl)
+      (λ core a b c is so. other-kind m e page is (λ k. omega arith) (λ k. omega arith) _ refl)
       (e .0) refl refl
     where
       refusal : (why : Status) → (why ≡ Accepted → ⊥) → framed m (e .0) (e .1) ≡ (m, Told why) → (u : ℕ) → Gives m e page u → ⊥
@@ -261,10 +205,10 @@ module _ (m : Machine) (e : Event) (page : ℕ) where
   unfolding performed
   naming-is fit to t =
       framed-by m (e .1) (λ (g : Frame) (o : Machine × Reply). e .0 ≡ g → framed m (e .0) (e .1) ≡ o → Timely to (o .0))
-      (λ why is so. absurd (let z : _≡_ {A = ℕ} 0 1 = other is in omega arith))
+      (λ why is so. other is (λ k. omega arith))
       (λ g why d is so. absurd (let k : Told why ≡ Told Accepted = sym (ap (λ (o : Machine × Reply). o .1) so) ∙ t .accepted in d cc))
-      (λ base pages cores a b is so. absurd (let k = sym (t .is-name) ∙ is in let z : _≡_ {A = ℕ} 0 1 = cc in omega arith))
-      (λ lowest last kind number a b c is so. absurd (let k = sym (t .is-name) ∙ is in let z : _≡_ {A = ℕ} 0 1 = cc in omega arith))
+      (λ base pages cores a b is so. other is (λ k. omega arith))
+      (λ lowest last kind number a b c is so. other is (λ k. omega arith))
       (λ lowest count u a b c is so.
       let k : Frame.Name (t .lowest) (t .count) to ≡ Frame.Name lowest count u = sym (t .is-name) ∙ is in
       let x : t .lowest ≡ lowest = cc in
@@ -277,12 +221,12 @@ module _ (m : Machine) (e : Event) (page : ℕ) where
         free = free-at (m .named) lowest count page (g .free) h l;
         marked = granted-inside (m .owners) (m .named) (m .setup .site .window .pages) lowest count u page _ g (fit .right a .whole .owners-whole) (fit .names) h l .1;
       })
-      (λ core a b c is so. absurd (let k = sym (t .is-name) ∙ is in let z : _≡_ {A = ℕ} 0 1 = cc in omega arith))
-      (λ core a b c is so. absurd (let k = sym (t .is-name) ∙ is in let z : _≡_ {A = ℕ} 0 1 = cc in omega arith))
+      (λ core a b c is so. other is (λ k. omega arith))
+      (λ core a b c is so. other is (λ k. omega arith))
       (e .0) refl refl
     where
-      other : {why : Status} → e .0 ≡ Frame.Refused why → _≡_ {A = ℕ} 0 1
-      other is = let k = sym (t .is-name) ∙ is in cc
+      other : {P : Type 0} {g : Frame} → e .0 ≡ g → (0x12 ≡ byte g → ⊥) → P
+      other is n = absurd (n (ap byte (sym (t .is-name) ∙ is)))
 
 module _ (page : ℕ) where
   -- once set-up has ended it has ended for good
@@ -334,7 +278,7 @@ module _ (page : ℕ) where
       now : Outcome m e page (next m e) → Named m (e ∷ rest) page (owner (next m e .owners) page)
       now (gave v (moves t) o) = rw o (by-transfer (record { before = []; line = e; later = rest; stands = refl; granted = t; last = u }))
       now (gave v (names t) o) =
-          rw o (by-set-up (λ w h. let k = sym (h .is-call) ∙ t .is-name in let z : _≡_ {A = ℕ} 0 1 = cc in omega arith, u) (record { before = []; line = e; later = rest; stands = refl; named = t }))
+          rw o (by-set-up (λ w h. omega (arith, ap byte (sym (h .is-call) ∙ t .is-name)), u) (record { before = []; line = e; later = rest; stands = refl; named = t }))
       now (kept g o) = rw o (as-before (λ w h. g w (moves h), u) (λ w h. g w (names h), n))
 
   -- The owner of a page after a run is the one whom the run names.

@@ -4,6 +4,7 @@ use mathlib.Core.List.{List, [], _∷_, _++_}
 use Prim.Native.Nat.{ℕ}
 use lib.ListN.{length}
 use Rattle.lines.specs.declared.Frame.{Frame}
+use Rattle.lines.specs.declared.Frame.the-variants as Frame
 use Rattle.frames.specs.Frames.{Machine, first, framed}
 use Rattle.frames.specs.declared.Reply.{Reply}
 
@@ -13,6 +14,15 @@ Event = Frame × List ℕ
 
 abbrev pub Events : Type 0
 Events = List Event
+
+-- the first byte of a frame, by which its kind is known
+abbrev pub byte : Frame → ℕ
+byte (Frame.Site base pages cores) = 0x11
+byte (Frame.Entry lowest last type number) = 0x10
+byte (Frame.Name lowest count to) = 0x12
+byte (Frame.Call core) = 0x20
+byte (Frame.Arrival core) = 0x21
+byte (Frame.Refused why) = 0
 
 -- the machine after a line, and the answer to it
 abbrev pub next : Machine → Event → Machine

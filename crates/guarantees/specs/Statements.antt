@@ -38,7 +38,7 @@ use Rattle.frames.specs.declared.Reply.{Reply}
 use Rattle.frames.specs.declared.Reply.the-variants.{Told}
 use Rattle.stream.specs.Run.{textOf}
 use Rattle.guarantees.specs.Runs.{Event, Events}
-use Rattle.guarantees.specs.Owners.{Named}
+use Rattle.guarantees.specs.Named.{Named}
 
 abbrev pub window : Machine → Window
 window m = m .setup .site .window

@@ -24,7 +24,7 @@ use Rattle.frames.specs.Stays.{framed-by, shown-not-told, call-state, refused-s
 use Rattle.frames.specs.Stays as Stays
 use Rattle.frames.specs.declared.Reply.{Reply}
 use Rattle.frames.specs.declared.Reply.the-variants.{Told}
-use Rattle.guarantees.specs.Runs.{Event, next, reply}
+use Rattle.guarantees.specs.Runs.{Event, byte, next, reply}
 use Rattle.guarantees.specs.Fit.{Fit}
 use Rattle.guarantees.specs.Entries.{reaches}
 use Rattle.guarantees.specs.Statements.{Taken, denied, Heeded}
@@ -46,14 +46,14 @@ goes m e core is =
     framed-by m (e .1) (λ (g : Frame) (o : Machine × Reply). e .0 ≡ g → Goes m core (e .1) o)
     (λ why k. leaves refl why refl)
     (λ g why d k. leaves refl why refl)
-    (λ base pages cores a b k. absurd (let c = sym is ∙ k in let z : _≡_ {A = ℕ} 0 1 = cc in omega arith))
-    (λ lowest last kind number a b c k. absurd (let c = sym is ∙ k in let z : _≡_ {A = ℕ} 0 1 = cc in omega arith))
-    (λ lowest count to a b c k. absurd (let c = sym is ∙ k in let z : _≡_ {A = ℕ} 0 1 = cc in omega arith))
+    (λ base pages cores a b k. absurd (omega (arith, ap byte (sym is ∙ k))))
+    (λ lowest last kind number a b c k. absurd (omega (arith, ap byte (sym is ∙ k))))
+    (λ lowest count to a b c k. absurd (omega (arith, ap byte (sym is ∙ k))))
     (λ c a b d k.
     let q : Frame.Call core ≡ Frame.Call c = sym is ∙ k in
     let s : core ≡ c = cc in
     performs (record { ready = a; exists = rw s b; on = rw s d; is = rw s }))
-    (λ c a b d k. absurd (let c = sym is ∙ k in let z : _≡_ {A = ℕ} 0 1 = cc in omega arith))
+    (λ c a b d k. absurd (omega (arith, ap byte (sym is ∙ k))))
     (e .0) refl
 
 module _ (m : Machine) (fit : Fit m) (e : Event) (core : ℕ) (is : e .0 ≡ Frame.Call core) where
@@ -123,7 +123,7 @@ heeded m fit e =
       arrival-saved = λ core c u j is n.
           framed-by m (e .1) (λ (g : Frame) (o : Machine × Reply). e .0 ≡ g → saved (o .0 .saved) c u j ≡ saved (m .saved) c u j)
           (λ why k. refl) (λ g why d k. refl) (λ base pages cores a b k. refl) (λ lowest last kind number a b c k. refl) (λ lowest count to a b c k. refl)
-          (λ c a b d k. absurd (let q = sym is ∙ k in let z : _≡_ {A = ℕ} 0 1 = cc in omega arith))
+          (λ c a b d k. absurd (omega (arith, ap byte (sym is ∙ k))))
           (λ d a b f k.
           let q : Frame.Arrival core ≡ Frame.Arrival d = sym is ∙ k in
           let s : core ≡ d = cc in

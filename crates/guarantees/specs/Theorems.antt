@@ -18,9 +18,9 @@ use Rattle.frames.specs.Frames.{Machine, first, framed}
 use Rattle.frames.specs.declared.Reply.{Reply}
 use Rattle.frames.specs.declared.Reply.the-variants.{Told, Called}
 use Rattle.stream.specs.Run.{textOf, answers, printed}
-use Rattle.guarantees.specs.Runs.{Event, Events, next, reply, ran, replies, replies-count, Allowed, Follows, carried, follows-is}
+use Rattle.guarantees.specs.Runs.{Event, Events, byte, next, reply, ran, replies, replies-count, Allowed, Follows, carried, follows-is}
 use Rattle.guarantees.specs.Fit.{first-fit, ran-fit}
-use Rattle.guarantees.specs.Owners.{Named, by-transfer, by-set-up, as-before, LastTransfer, NamedBy, Unmoved}
+use Rattle.guarantees.specs.Named.{Named, by-transfer, by-set-up, as-before, LastTransfer, NamedBy, Unmoved}
 use Rattle.guarantees.specs.Entries.{entries, one-entry}
 use Rattle.guarantees.specs.Statements.{Guaranteed, Heeded, ownerIn, texts, Shape, status, call}
 use Rattle.guarantees.specs.Steps.{heeded}
@@ -61,8 +61,8 @@ pub record SetUp (m : Machine) : Type 0 where
 
 -- a step is no set-up line, and so none of a run of steps is
 no-name : (s : Step) (line : Event) (lowest count to : ℕ) → event s ≡ line → line .0 ≡ Frame.Name lowest count to → ⊥
-no-name (calls core xs) line lowest count to e k = let h = ap (λ (q : Event). q .0) e ∙ k in let z : _≡_ {A = ℕ} 0 1 = cc in omega arith
-no-name (arrives core) line lowest count to e k = let h = ap (λ (q : Event). q .0) e ∙ k in let z : _≡_ {A = ℕ} 0 1 = cc in omega arith
+no-name (calls core xs) line lowest count to e k = omega (arith, ap byte (ap (λ (q : Event). q .0) e ∙ k))
+no-name (arrives core) line lowest count to e k = omega (arith, ap byte (ap (λ (q : Event). q .0) e ∙ k))
 
 none-names : (steps : List Step) (before : Events) (line : Event) (later : Events) (lowest count to : ℕ)
     → map event steps ≡ before ++ line ∷ later → line .0 ≡ Frame.Name lowest count to → ⊥
