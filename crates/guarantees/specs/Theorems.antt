@@ -10,6 +10,7 @@ use Rattle.ledger.specs.Ledger.{handler}
 use Rattle.ledger.specs.Only.{only}
 use Rattle.ledger.specs.OneHandler.{One, covers}
 use Rattle.pages.specs.Owners.{unowned-owner}
+use Rattle.lines.specs.Frame.{numbers, parsed, parsed-call}
 use Rattle.lines.specs.Lines.{linesOf}
 use Rattle.lines.specs.Input.{reading, readings}
 use Rattle.lines.specs.declared.Frame.{Frame}
@@ -38,6 +39,11 @@ root-first page = unowned-owner page
 -- Any line that follows any lines is heeded.
 pub any-line : (before : List (List ℕ)) (line : List ℕ) → let m = ran first (map reading before) in Heeded m (reading line) (next m (reading line)) (reply m (reading line))
 any-line before line = heeded (ran first (map reading before)) (ran-fit (map reading before)) (reading line)
+
+-- A line that is a call has eight numbers, as is asked above of a hand-over and a finish.
+pub eight : (line : List ℕ) (core : ℕ) → reading line .0 ≡ Frame.Call core → length (reading line .1) ≡ 8
+unfolding parsed numbers
+eight line core is = ap length (parsed-call line [] (reading line .1) (reading line .0) refl (rw is))
 
 -- Of the entries that any lines have set up, one alone covers a pair of type and owner, and its handler takes the pair's calls; or none does, and nobody takes them.
 pub one-handler : (lines : List (List ℕ)) (kind owner : ℕ) → let run = map reading lines in One (only (covers kind owner) (entries first run)) (handler (ran first run .ledger) kind owner)
