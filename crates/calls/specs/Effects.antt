@@ -191,7 +191,7 @@ module _ (s : State) (core : ℕ) (xs : List ℕ) where
       ∙ kept-past (s .saved) core (callerOf s core) xs j l
 
   module _ (to : ℕ) (e : deedIn s core xs ≡ HandOver to) where
-    hands : (callerOf s core ≡ normal) × Takes to
+    pub hands : (callerOf s core ≡ normal) × Takes to
     hands = rw e at (grounded (sight s core) xs .stands)
 
     -- A hand-over gives the receiver the frame's x0 to x7.
@@ -208,7 +208,7 @@ module _ (s : State) (core : ℕ) (xs : List ℕ) where
         (λ y z. ⊎-elim (λ (y : to ≡ secure). omega (arith, hands .0)) (λ (y : to ≡ realm). omega (arith, hands .0)) (hands .1)))
 
   module _ (e : deedIn s core xs ≡ Finish) where
-    finishes : Takes (callerOf s core) × (turn (s .turns) core .is_open ≡ true)
+    pub finishes : Takes (callerOf s core) × (turn (s .turns) core .is_open ≡ true)
     finishes = rw e at (grounded (sight s core) xs .stands)
 
     -- A finish gives Normal the finisher's x1 to x4 as its x0 to x3.

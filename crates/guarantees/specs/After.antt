@@ -25,6 +25,7 @@ use Rattle.mapping.specs.declared.Lead.the-variants.{To}
 use Rattle.judging.specs.Grounds.{Calls}
 use Rattle.calls.specs.Kept.{Right}
 use Rattle.frames.specs.Frames.{Machine, first, stateOf}
+use Rattle.frames.specs.Stays.{site-stays, settled}
 use Rattle.guarantees.specs.Runs.{Event, Events, next, ran, replies, replies-count, always}
 use Rattle.guarantees.specs.Fit.{Fit, fit-next}
 use Rattle.guarantees.specs.Owners.{owner-named, named-owner}
@@ -102,6 +103,7 @@ guaranteed-after m fit run =
       owner-alone = λ page to n. named-owner page run m to fit n;
       owner-world = fit-world last f;
       mapped-owned = λ world. fit-sound last f world .owned;
+      mapped-inside = λ world. fit-sound last f world .formed;
       mapped-once = fit-once last f;
       virtual-once = λ world x. one-holds x (mapped last world) (fit-sound last f world .apart);
       one-world = λ u v page a b. sym (fit-sound last f u .owned page a) ∙ fit-sound last f v .owned page b;
@@ -110,5 +112,14 @@ guaranteed-after m fit run =
       exact = fit-exact last f;
       runs = fit-runs last f;
       absent = fit-absent last f;
+      idle = f .idle;
+      site-stays = λ e. always (λ (q : Machine). (q .setup .ready ≡ true) × (q .setup .site ≡ m .setup .site)) site-next m run (e, refl);
+      ledger-stays = λ e. always (λ (q : Machine). (q .setup .ended ≡ true) × (q .ledger ≡ m .ledger)) ledger-next m run (e, refl);
       answered = replies-count m run;
     }
+  where
+    site-next : (q : Machine) (e : Event) → (q .setup .ready ≡ true) × (q .setup .site ≡ m .setup .site) → (next q e .setup .ready ≡ true) × (next q e .setup .site ≡ m .setup .site)
+    site-next q e h = let s = site-stays q (e .0) (e .1) (h .0) in (s .0, s .1 ∙ h .1)
+
+    ledger-next : (q : Machine) (e : Event) → (q .setup .ended ≡ true) × (q .ledger ≡ m .ledger) → (next q e .setup .ended ≡ true) × (next q e .ledger ≡ m .ledger)
+    ledger-next q e h = let s = settled q (e .0) (e .1) (h .0) in (s .ended, s .ledger ∙ h .1)

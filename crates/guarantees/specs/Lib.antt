@@ -1,4 +1,5 @@
 pub mod Runs
+pub mod Asked
 pub mod Named
 pub mod Fit
 pub mod Owners

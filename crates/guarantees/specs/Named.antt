@@ -5,25 +5,25 @@ use Prim.Native.Nat.{ℕ, _+_, _≤_, _<_}
 use Rattle.pages.specs.Window.{runOf}
 use Rattle.pages.specs.Owners.{owner}
 use Rattle.pages.specs.declared.Place.the-variants.{Page}
-use Rattle.judging.specs.declared.Deed.the-variants.{Move}
-use Rattle.calls.specs.Effects.{deedIn}
+use Rattle.calls.specs.Step.{sight}
 use Rattle.lines.specs.declared.Status.{Status}
 use Rattle.lines.specs.declared.Status.the-variants.{Accepted}
 use Rattle.lines.specs.declared.Frame.the-variants as Frame
 use Rattle.frames.specs.Frames.{Machine, stateOf}
 use Rattle.frames.specs.declared.Reply.the-variants.{Told}
+use Rattle.guarantees.specs.Asked.{Granted}
 use Rattle.guarantees.specs.Runs.{Event, Events, next, reply, ran}
 
 -- ---- what names an owner
--- A granted transfer of a page: the line is a call, it is accepted (its answer is no status), and what is done for it in
--- the state that it meets is to move a run of pages, this one among them, to the world `to`.
+-- A granted transfer of a page: the line is a call, it is accepted (its answer is no status), and in the state that it meets
+-- it asks for the transfer of a run of pages, this one among them, to the world `to`, and is answered 0.
 pub record Transfers (m : Machine) (e : Event) (page to : ℕ) : Type 0 where
   pub core : ℕ
   pub is-call : e .0 ≡ Frame.Call core
   pub accepted : (why : Status) → reply m e ≡ Told why → ⊥
   pub start : ℕ
   pub count : ℕ
-  pub granted : deedIn (stateOf m) core (e .1) ≡ Move start count to
+  pub granted : Granted (sight (stateOf m) core) (e .1) start count to
   pub lowest : ℕ
   pub lies : runOf (m .setup .site .window) start count ≡ Page lowest
   pub low : lowest ≤ page

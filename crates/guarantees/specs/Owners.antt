@@ -18,7 +18,7 @@ use Rattle.pages.specs.declared.Place.the-variants.{Page}
 use Rattle.pages.specs.declared.Naming.the-variants as Naming
 use Rattle.judging.specs.declared.Deed.{Deed}
 use Rattle.judging.specs.declared.Deed.the-variants.{Nothing, Move, Map, Unmap, Start, Stop, HandOver, Finish}
-use Rattle.calls.specs.Step.{State, called, applied, arrivedIn}
+use Rattle.calls.specs.Step.{State, sight, called, applied, arrivedIn}
 use Rattle.calls.specs.Effects.{deedIn, after, Carries, owners-spared, movable, moved-inside, moved-outside}
 use Rattle.calls.specs.Kept.{Right}
 use Rattle.lines.specs.declared.Status.{Status}
@@ -30,10 +30,15 @@ use Rattle.frames.specs.Stays.{framed-by, shown-not-told, settled, call-ends}
 use Rattle.frames.specs.declared.Reply.{Reply}
 use Rattle.frames.specs.declared.Reply.the-variants.{Told, Called}
 use Rattle.guarantees.specs.Runs.{Event, Events, byte, next, reply, ran, ran-two, always}
+use Rattle.guarantees.specs.Asked.{granted-moves, moves-granted}
 use Rattle.guarantees.specs.Named.{Transfers, Names, Unmoved, Unnamed, LastTransfer, NamedBy, Named, by-transfer, by-set-up, as-before}
 use Rattle.guarantees.specs.Fit.{Fit, fit-next}
 
 -- ---- one line
+-- what is done for a granted transfer
+moves-deed : {m : Machine} {e : Event} {page to : ℕ} (t : Transfers m e page to) → deedIn (stateOf m) (t .core) (e .1) ≡ Move (t .start) (t .count) to
+moves-deed {m} {e} {to = to} t = granted-moves (sight (stateOf m) (t .core)) (e .1) (t .start) (t .count) to (t .granted)
+
 -- either of the two
 data Gives (m : Machine) (e : Event) (page to : ℕ) : Type 0 where
   moves : Transfers m e page to → Gives m e page to
@@ -44,7 +49,7 @@ gives-one : {m : Machine} {e : Event} {page to other : ℕ} → Gives m e page t
 gives-one {m} {e} {to = to} {other = other} (moves a) (moves b) =
     let c : Frame.Call (a .core) ≡ Frame.Call (b .core) = sym (a .is-call) ∙ b .is-call in
     let d : a .core ≡ b .core = cc in
-    let g : Move (a .start) (a .count) to ≡ Move (b .start) (b .count) other = sym (a .granted) ∙ rw d (b .granted) in
+    let g : Move (a .start) (a .count) to ≡ Move (b .start) (b .count) other = sym (moves-deed a) ∙ rw d (moves-deed b) in
     cc
 gives-one (moves a) (names b) = omega (arith, ap byte (sym (a .is-call) ∙ b .is-name))
 gives-one (names a) (moves b) = omega (arith, ap byte (sym (a .is-name) ∙ b .is-call))
@@ -110,7 +115,7 @@ module _ (m : Machine) (fit : Fit m) (e : Event) (page : ℕ) where
       (λ start count to d.
       let v = movable (stateOf m) core (e .1) start count to d in
       inside-or-not (v .first) count page
-      (λ h l. gave to (moves (record { core = core; is-call = is; accepted = ok; start = start; count = count; granted = d; lowest = v .first; lies = v .lies; low = h; high = l }))
+      (λ h l. gave to (moves (record { core = core; is-call = is; accepted = ok; start = start; count = count; granted = moves-granted (sight (stateOf m) core) (e .1) start count to d; lowest = v .first; lies = v .lies; low = h; high = l }))
       (rw w (moved-inside (stateOf m) core (e .1) start count to d page (fit .right a .whole .owners-whole) h l .1)))
       (λ n. kept (λ u. elsewhere u start count to d (v .first) (v .lies) n) (rw w (moved-outside (stateOf m) core (e .1) start count to d page n))))
       (λ n. kept (λ u. still u n) (rw w (ap (λ (t : List ℕ). owner t page) (owners-spared (stateOf m) core (e .1) n))))
@@ -123,7 +128,7 @@ module _ (m : Machine) (fit : Fit m) (e : Event) (page : ℕ) where
       elsewhere u start count to d lowest lies n (names t) = omega (arith, ap byte (sym (t .is-name) ∙ is))
       elsewhere u start count to d lowest lies n (moves t) =
           let c : t .core ≡ core = same-core (t .core) (t .is-call) in
-          let g : Move (t .start) (t .count) u ≡ Move start count to = sym (rw c at (t .granted)) ∙ d in
+          let g : Move (t .start) (t .count) u ≡ Move start count to = sym (rw c at (moves-deed t)) ∙ d in
           let x : t .start ≡ start = cc in
           let y : t .count ≡ count = cc in
           let k : Page (t .lowest) ≡ Page lowest = sym (rw (x, y) at (t .lies)) ∙ lies in
@@ -134,7 +139,7 @@ module _ (m : Machine) (fit : Fit m) (e : Event) (page : ℕ) where
       still u n (names t) = omega (arith, ap byte (sym (t .is-name) ∙ is))
       still u n (moves t) =
           let c : t .core ≡ core = same-core (t .core) (t .is-call) in
-          let g : deedIn (stateOf m) core (e .1) ≡ Move (t .start) (t .count) u = rw c at (t .granted) in
+          let g : deedIn (stateOf m) core (e .1) ≡ Move (t .start) (t .count) u = rw c at (moves-deed t) in
           n (rw g tt)
 
   -- any line

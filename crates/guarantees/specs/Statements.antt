@@ -8,7 +8,7 @@ use lib.ListN.{length, getD}
 use Rattle.rules.specs.Choice.{pick}
 use Rattle.rules.specs.declared.Reason.{Reason}
 use Rattle.ledger.specs.Ledger.{handler}
-use Rattle.identifiers.specs.Identifier.{identifierOf, matched, admitted}
+use Rattle.identifiers.specs.Identifier.{admitted}
 use Rattle.registers.specs.Registers.{saved, kept}
 use Rattle.cores.specs.Power.{isOn, isPending}
 use Rattle.cores.specs.Cores.{power, turn}
@@ -16,7 +16,8 @@ use Rattle.pages.specs.Owners.{owner, countOwned}
 use Rattle.pages.specs.declared.Window.{Window}
 use Rattle.mapping.specs.Lists.{held}
 use Rattle.mapping.specs.Mapping.{holds, deciding, leadOf}
-use Rattle.mapping.specs.Sound.{covers}
+use Rattle.mapping.specs.Entries.{Every}
+use Rattle.mapping.specs.Sound.{covers, Formed}
 use Rattle.mapping.specs.Once.{coverings, countCovered}
 use Rattle.mapping.specs.declared.Mapping.{Mapping}
 use Rattle.mapping.specs.declared.Lead.the-variants.{To}
@@ -27,17 +28,18 @@ use Rattle.judging.specs.declared.Answer.the-variants.{No}
 use Rattle.judging.specs.declared.Deed.the-variants.{HandOver, Finish}
 use Rattle.calls.specs.Answers.{minus}
 use Rattle.calls.specs.Step.{sight, callerOf, judgedIn}
-use Rattle.calls.specs.Effects.{deedIn, answerIn, Receives}
+use Rattle.calls.specs.Effects.{deedIn, answerIn, resultsIn, Receives}
 use Rattle.lines.specs.declared.Status.{Status}
 use Rattle.lines.specs.declared.Status.the-variants.{Accepted}
 use Rattle.lines.specs.declared.Frame.{Frame}
 use Rattle.lines.specs.declared.Frame.the-variants as Frame
 use Rattle.text.specs.Text.{statusText, callText}
-use Rattle.frames.specs.Frames.{Machine, machine, stateOf, over}
+use Rattle.frames.specs.Frames.{Machine, machine, first, stateOf, over, shownIn}
 use Rattle.frames.specs.declared.Reply.{Reply}
 use Rattle.frames.specs.declared.Reply.the-variants.{Told}
 use Rattle.stream.specs.Run.{textOf}
 use Rattle.guarantees.specs.Runs.{Event, Events}
+use Rattle.guarantees.specs.Asked.{key, HandsTo, Finishes, Reached}
 use Rattle.guarantees.specs.Named.{Named}
 
 abbrev pub window : Machine → Window
@@ -65,6 +67,8 @@ pub record Guaranteed (m : Machine) (run : Events) (last : Machine) (answers : L
   pub owner-world : (page : ℕ) → ownerIn last page ≤ 3
   -- A world's mappings cover only pages which it owns.
   pub mapped-owned : (world page : ℕ) → covers (window last) (mapped last world) page ≡ true → ownerIn last page ≡ world
+  -- Each of them is of whole pages inside the window, and ends at or below 2^32.
+  pub mapped-inside : (world : ℕ) → Every (Formed (window last)) (mapped last world)
   -- Each page is covered at most once in a world.
   pub mapped-once : (world page : ℕ) → coverings (window last) (mapped last world) page ≤ 1
   -- No two mappings of a world hold one virtual address.
@@ -81,6 +85,11 @@ pub record Guaranteed (m : Machine) (run : Events) (last : Machine) (answers : L
   pub runs : (core : ℕ) → isOn (power (last .powers) core) ≡ true → Calls (turn (last .turns) core .world)
   -- Once set-up has said how many cores there are, no other is ON or pending.
   pub absent : (core : ℕ) → last .setup .ready ≡ true → last .setup .site .cores ≤ core → (isOn (power (last .powers) core) ≡ false) × (isPending (power (last .powers) core) ≡ false)
+  -- Before that nothing has happened.
+  pub idle : last .setup .ready ≡ false → last ≡ first
+  -- The window and the number of cores stay once they are given; the ledger stays once set-up has ended, and set-up stays ended.
+  pub site-stays : m .setup .ready ≡ true → (last .setup .ready ≡ true) × (last .setup .site ≡ m .setup .site)
+  pub ledger-stays : m .setup .ended ≡ true → (last .setup .ended ≡ true) × (last .ledger ≡ m .ledger)
   -- Each line has one answer.
   pub answered : length answers ≡ length run
 
@@ -111,24 +120,38 @@ denied m core xs r =
 pub record Heeded (m : Machine) (e : Event) (last : Machine) (answer : Reply) : Type 0 where
   -- A refused frame changes nothing.
   pub refused-frame : (why : Status) → answer ≡ Told why → (why ≡ Accepted → ⊥) → last ≡ m
-  -- A refused call changes nothing but x0 of the caller.
+  -- A call that is not refused as a frame shows its core, the world that then runs there or 255 where the core is OFF, and that world's x0 to x3, or Normal's.
+  pub call-answer : (core : ℕ) → e .0 ≡ Frame.Call core → Taken answer → answer ≡ shownIn core (stateOf last)
+  -- No call is told that it is accepted, and no other line is answered as a call.
+  pub call-told : (core : ℕ) → e .0 ≡ Frame.Call core → answer ≡ Told Accepted → ⊥
+  pub other-told : ((core : ℕ) → e .0 ≡ Frame.Call core → ⊥) → Taken answer → ⊥
+  -- A call that is not refused as a frame ends set-up; nothing else does.
+  pub set-up-ends : Taken answer → last .setup .ended ≡ true
+  pub set-up-goes-on : (why : Status) → answer ≡ Told why → last .setup .ended ≡ m .setup .ended
+  -- A refused call leaves the machine in which the caller has its eight numbers and set-up has ended, but for the refusal in x0.
   pub refused-call : (core : ℕ) (r : Reason) → e .0 ≡ Frame.Call core → Taken answer → answerIn (stateOf m) core (e .1) ≡ No r → last ≡ denied m core (e .1) r
-  -- A call changes no number saved for another core or another world, but for the world that it hands over to or finishes into.
-  pub call-saved : (core c u j : ℕ) → e .0 ≡ Frame.Call core → (core ≡ c → callerOf (stateOf m) core ≡ u → ⊥) → (core ≡ c → Receives (deedIn (stateOf m) core (e .1)) u → ⊥) → saved (last .saved) c u j ≡ saved (m .saved) c u j
-  -- So, except for a hand-over or its finish, a call changes no number saved for another world.
+  -- A call that passes the test on bits 23 to 16 is judged by the handler that the ledger has for its type and owner, or by none.
+  pub dispatched : (core : ℕ) → e .0 ≡ Frame.Call core → Taken answer → admitted (calledBy (e .1)) ≡ true
+      → judgedIn (stateOf m) core (e .1) ≡ found (sight (stateOf m) core .view) (argsOf (calledBy (e .1)) (e .1)) (key (e .1)) (handler (m .ledger) (calledBy (e .1) .fast) (calledBy (e .1) .owner))
+  -- A call changes no number saved for another core.
+  pub other-cores : (core c u j : ℕ) → e .0 ≡ Frame.Call core → (core ≡ c → ⊥) → saved (last .saved) c u j ≡ saved (m .saved) c u j
+  -- Except for a hand-over or its finish, it changes no number saved for another world.
   pub other-worlds : (core c u j : ℕ) → e .0 ≡ Frame.Call core → (callerOf (stateOf m) core ≡ u → ⊥) → ((to : ℕ) → deedIn (stateOf m) core (e .1) ≡ HandOver to → ⊥) → (deedIn (stateOf m) core (e .1) ≡ Finish → ⊥) → saved (last .saved) c u j ≡ saved (m .saved) c u j
-  -- A hand-over gives the receiver x0 to x7; its other number stays.
+  -- Those two change no world's numbers but the receiver's, who is Normal for a finish.
+  pub no-receiver : (core u j : ℕ) → e .0 ≡ Frame.Call core → (callerOf (stateOf m) core ≡ u → ⊥) → (Receives (deedIn (stateOf m) core (e .1)) u → ⊥) → saved (last .saved) core u j ≡ saved (m .saved) core u j
+  -- There is a hand-over only where Normal asks for it, by handler 3 or 2; the receiver gets x0 to x7, and its other number stays.
+  pub hand-over : (core to : ℕ) → deedIn (stateOf m) core (e .1) ≡ HandOver to → (callerOf (stateOf m) core ≡ normal) × Reached (sight (stateOf m) core) (e .1) (λ h. HandsTo h (key (e .1)) to)
   pub handed : (core to j : ℕ) → e .0 ≡ Frame.Call core → Taken answer → length (e .1) ≡ 8 → deedIn (stateOf m) core (e .1) ≡ HandOver to → j < 8 → saved (last .saved) core to j ≡ getD (e .1) j 0
   pub handed-rest : (core to j : ℕ) → e .0 ≡ Frame.Call core → Taken answer → length (e .1) ≡ 8 → deedIn (stateOf m) core (e .1) ≡ HandOver to → 8 ≤ j → saved (last .saved) core to j ≡ saved (m .saved) core to j
-  -- A finish gives Normal the finisher's x1 to x4 as x0 to x3; Normal's other numbers stay.
+  -- There is a finish only where Secure or Realm asks for it and a hand-over is open; Normal gets the finisher's x1 to x4 as x0 to x3, and its other numbers stay.
+  pub finish : (core : ℕ) → deedIn (stateOf m) core (e .1) ≡ Finish → Reached (sight (stateOf m) core) (e .1) (λ h. Finishes h (key (e .1)) (callerOf (stateOf m) core)) × (turn (m .turns) core .is_open ≡ true)
   pub finished : (core j : ℕ) → e .0 ≡ Frame.Call core → Taken answer → length (e .1) ≡ 8 → deedIn (stateOf m) core (e .1) ≡ Finish → j < 4 → saved (last .saved) core normal j ≡ getD (e .1) (1 + j) 0
   pub finished-rest : (core j : ℕ) → e .0 ≡ Frame.Call core → Taken answer → deedIn (stateOf m) core (e .1) ≡ Finish → 4 ≤ j → saved (last .saved) core normal j ≡ saved (m .saved) core normal j
+  -- The caller has the answer's results in x0 and on, and the frame's numbers behind them; its start address stays.
+  pub caller-results : (core j : ℕ) → e .0 ≡ Frame.Call core → Taken answer → j < length (resultsIn (stateOf m) core (e .1)) → saved (last .saved) core (callerOf (stateOf m) core) j ≡ getD (resultsIn (stateOf m) core (e .1)) j 0
+  pub caller-numbers : (core j : ℕ) → e .0 ≡ Frame.Call core → Taken answer → length (e .1) ≡ 8 → length (resultsIn (stateOf m) core (e .1)) ≤ j → j < 8 → saved (last .saved) core (callerOf (stateOf m) core) j ≡ getD (e .1) j 0
+  pub caller-rest : (core j : ℕ) → e .0 ≡ Frame.Call core → length (e .1) ≡ 8 → 8 ≤ j → saved (last .saved) core (callerOf (stateOf m) core) j ≡ saved (m .saved) core (callerOf (stateOf m) core) j
   -- An arrival changes no number but Normal's on its core.
   pub arrival-saved : (core c u j : ℕ) → e .0 ≡ Frame.Arrival core → (core ≡ c → normal ≡ u → ⊥) → saved (last .saved) c u j ≡ saved (m .saved) c u j
   -- No other line changes a saved number.
   pub other-saved : ((core : ℕ) → e .0 ≡ Frame.Call core → ⊥) → ((core : ℕ) → e .0 ≡ Frame.Arrival core → ⊥) → last .saved ≡ m .saved
-  -- A call that passes the test on bits 23 to 16 is judged by the handler that the ledger has for its type and owner, or by none.
-  pub dispatched : (core : ℕ) → e .0 ≡ Frame.Call core → Taken answer → admitted (calledBy (e .1)) ≡ true
-      → judgedIn (stateOf m) core (e .1) ≡ found (sight (stateOf m) core .view) (argsOf (calledBy (e .1)) (e .1)) (matched (identifierOf (getD (e .1) 0 0))) (handler (m .ledger) (calledBy (e .1) .fast) (calledBy (e .1) .owner))
-  -- Once set-up has ended the ledger stays.
-  pub ledger-stays : m .setup .ended ≡ true → last .ledger ≡ m .ledger

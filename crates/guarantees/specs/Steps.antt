@@ -2,43 +2,45 @@
 use mathlib.Core.Path.{_≡_, refl, sym, ap, _∙_}
 use mathlib.Core.Bool.{true, false}
 use mathlib.Core.List.{List, [], _∷_}
+use mathlib.Core.Logic.{⊎-elim}
 use Prim.Native.Nat.{ℕ, _≤_, _<_}
 use native.Mathlib.Omega.{arith}
 use Rattle.registers.specs.Registers.{saved}
 use Rattle.rules.specs.declared.Reason.{Reason}
 use Rattle.cores.specs.Power.{isOn, isPending}
 use Rattle.cores.specs.Cores.{power}
-use Rattle.judging.specs.Names.{normal}
+use Rattle.judging.specs.Names.{secure, normal, realm}
+use Rattle.judging.specs.Grounds.{Takes}
 use Rattle.judging.specs.declared.Answer.the-variants.{No}
 use Rattle.judging.specs.declared.Deed.{Deed}
 use Rattle.judging.specs.declared.Deed.the-variants.{Nothing, Move, Map, Unmap, Start, Stop, HandOver, Finish}
-use Rattle.calls.specs.Step.{State, callerOf, called, arrivedIn}
-use Rattle.calls.specs.Effects.{after, deedIn, answerIn, Receives, refused, saved-spared, handed-numbers, handed-rest, finished-numbers, finished-rest, arrival-saved}
+use Rattle.calls.specs.Step.{State, sight, callerOf, called, arrivedIn}
+use Rattle.calls.specs.Effects.{after, deedIn, answerIn, Receives, refused, saved-spared, own-results, own-frame, own-past, hands, handed-numbers, handed-rest, finishes, finished-numbers, finished-rest, arrival-saved}
 use Rattle.calls.specs.Kept.{Right}
 use Rattle.lines.specs.declared.Status.{Status}
 use Rattle.lines.specs.declared.Status.the-variants.{Accepted}
 use Rattle.lines.specs.declared.Frame.{Frame}
 use Rattle.lines.specs.declared.Frame.the-variants as Frame
-use Rattle.frames.specs.Frames.{Machine, framed, stateOf, seatOf, over, performed, withState, withSeat}
-use Rattle.frames.specs.Stays.{framed-by, shown-not-told, call-state, refused-same}
-use Rattle.frames.specs.Stays as Stays
+use Rattle.frames.specs.Frames.{Machine, framed, stateOf, seatOf, over, performed, withState, withSeat, shownIn}
+use Rattle.frames.specs.Stays.{framed-by, shown-not-told, refused-same, told-goes-on, call-ends}
 use Rattle.frames.specs.declared.Reply.{Reply}
-use Rattle.frames.specs.declared.Reply.the-variants.{Told}
+use Rattle.frames.specs.declared.Reply.the-variants.{Told, Called}
 use Rattle.guarantees.specs.Runs.{Event, byte, next, reply}
+use Rattle.guarantees.specs.Asked.{hand-over-asked, finish-asked}
 use Rattle.guarantees.specs.Fit.{Fit}
 use Rattle.guarantees.specs.Entries.{reaches}
 use Rattle.guarantees.specs.Statements.{Taken, denied, Heeded}
 
 -- an accepted call: the core may call, and the machine after it is the call's
-record Performs (m : Machine) (core : ℕ) (xs : List ℕ) (o : Machine) : Type 0 where
+record Performs (m : Machine) (core : ℕ) (xs : List ℕ) (o : Machine × Reply) : Type 0 where
   ready : m .setup .ready ≡ true
   exists : core < m .setup .site .cores
   on : isOn (power (m .powers) core) ≡ true
-  is : o ≡ withState m (performed (m .setup) (stateOf m) core xs) .0
+  is : o ≡ withState m (performed (m .setup) (stateOf m) core xs)
 
 -- a line that is a call is accepted and performed, or leaves the machine
 data Goes (m : Machine) (core : ℕ) (xs : List ℕ) (o : Machine × Reply) : Type 0 where
-  performs : Performs m core xs (o .0) → Goes m core xs o
+  performs : Performs m core xs o → Goes m core xs o
   leaves : o .0 ≡ m → (why : Status) → o .1 ≡ Told why → Goes m core xs o
 
 goes : (m : Machine) (e : Event) (core : ℕ) → e .0 ≡ Frame.Call core → Goes m core (e .1) (framed m (e .0) (e .1))
@@ -57,17 +59,17 @@ goes m e core is =
     (e .0) refl
 
 module _ (m : Machine) (fit : Fit m) (e : Event) (core : ℕ) (is : e .0 ≡ Frame.Call core) where
-  taken : Taken (reply m e) → Performs m core (e .1) (next m e)
+  taken : Taken (reply m e) → Performs m core (e .1) (framed m (e .0) (e .1))
   taken t = which (goes m e core is)
     where
-      which : Goes m core (e .1) (framed m (e .0) (e .1)) → Performs m core (e .1) (next m e)
+      which : Goes m core (e .1) (framed m (e .0) (e .1)) → Performs m core (e .1) (framed m (e .0) (e .1))
       which (performs p) = p
       which (leaves k why h) = absurd (t why h)
 
   -- what the call makes of the saved numbers is what the machine has
-  call-numbers : Performs m core (e .1) (next m e) → next m e .saved ≡ after (stateOf m) core (e .1) .saved
+  call-numbers : Performs m core (e .1) (framed m (e .0) (e .1)) → next m e .saved ≡ after (stateOf m) core (e .1) .saved
   unfolding performed
-  call-numbers p = rw (p .is)
+  call-numbers p = ap (λ (o : Machine × Reply). o .0 .saved) (p .is)
 
   call-spares : (c u j : ℕ) → (core ≡ c → callerOf (stateOf m) core ≡ u → ⊥) → (core ≡ c → Receives (deedIn (stateOf m) core (e .1)) u → ⊥)
       → saved (next m e .saved) c u j ≡ saved (m .saved) c u j
@@ -80,7 +82,7 @@ module _ (m : Machine) (fit : Fit m) (e : Event) (core : ℕ) (is : e .0 ≡ Fra
   call-refused : (r : Reason) → Taken (reply m e) → answerIn (stateOf m) core (e .1) ≡ No r → next m e ≡ denied m core (e .1) r
   unfolding performed
   call-refused r t a =
-      taken t .is
+      ap (λ (o : Machine × Reply). o .0) (taken t .is)
       ∙ ap (λ (s : State). record { setup = over (m .setup); named = m .named; ledger = s .ledger; owners = s .owners; saved = s .saved; powers = s .powers; turns = s .turns; lists = s .lists })
       (refused (stateOf m) core (e .1) r a)
 
@@ -90,6 +92,18 @@ module _ (m : Machine) (fit : Fit m) (e : Event) (core : ℕ) (is : e .0 ≡ Fra
 
     inside : core < 8
     inside = omega (arith, taken t .exists, right .most-cores)
+
+    calling : callerOf (stateOf m) core < 4
+    calling =
+        ⊎-elim (λ (k : callerOf (stateOf m) core ≡ normal). omega arith)
+        (λ (k : Takes (callerOf (stateOf m) core)). ⊎-elim (λ (k : callerOf (stateOf m) core ≡ secure). omega arith) (λ (k : callerOf (stateOf m) core ≡ realm). omega arith) k)
+        (right .seated core inside .world)
+
+    shows : reply m e ≡ shownIn core (stateOf (next m e))
+    unfolding performed
+    shows =
+        ap (λ (o : Machine × Reply). o .1) (taken t .is)
+        ∙ sym (ap (λ (o : Machine × Reply). shownIn core (stateOf (o .0))) (taken t .is))
 
     numbers : next m e .saved ≡ after (stateOf m) core (e .1) .saved
     numbers = call-numbers (taken t)
@@ -105,21 +119,73 @@ received Stop u h f r = r
 received (HandOver to) u h f r = h to refl
 received Finish u h f r = f refl
 
+-- a status is no call's answer, and a call's answer no status
+told-or-taken : {P : Type 0} (answer : Reply) → ((why : Status) → answer ≡ Told why → P) → (Taken answer → P) → P
+told-or-taken (Told why) t c = t why refl
+told-or-taken (Called core world x) t c = c (λ why k. let z : _≡_ {A = ℕ} 0 1 = cc in omega arith)
+
+module _ (m : Machine) (e : Event) where
+  -- a line that is no call is answered by a status
+  status-only : ((core : ℕ) → e .0 ≡ Frame.Call core → ⊥) → Taken (reply m e) → ⊥
+  status-only n t =
+      framed-by m (e .1) (λ (g : Frame) (o : Machine × Reply). e .0 ≡ g → framed m (e .0) (e .1) ≡ o → ⊥)
+      (λ why k h. t why (ap (λ (o : Machine × Reply). o .1) h)) (λ g why d k h. t why (ap (λ (o : Machine × Reply). o .1) h))
+      (λ base pages cores a b k h. t Accepted (ap (λ (o : Machine × Reply). o .1) h)) (λ lowest last kind number a b c k h. t Accepted (ap (λ (o : Machine × Reply). o .1) h))
+      (λ lowest count to a b c k h. t Accepted (ap (λ (o : Machine × Reply). o .1) h)) (λ core a b c k h. n core k) (λ core a b c k h. t Accepted (ap (λ (o : Machine × Reply). o .1) h))
+      (e .0) refl refl
+
+  -- a call is never told that it is accepted
+  call-not-told : (core : ℕ) → e .0 ≡ Frame.Call core → reply m e ≡ Told Accepted → ⊥
+  unfolding performed
+  call-not-told core is told =
+      framed-by m (e .1) (λ (g : Frame) (o : Machine × Reply). e .0 ≡ g → framed m (e .0) (e .1) ≡ o → ⊥)
+      (λ why k h. omega (arith, ap byte (sym is ∙ k)))
+      (λ g why d k h. let q : Told why ≡ Told Accepted = sym (ap (λ (o : Machine × Reply). o .1) h) ∙ told in d cc)
+      (λ base pages cores a b k h. omega (arith, ap byte (sym is ∙ k))) (λ lowest last kind number a b c k h. omega (arith, ap byte (sym is ∙ k)))
+      (λ lowest count to a b c k h. omega (arith, ap byte (sym is ∙ k)))
+      (λ core a b c k h. shown-not-told _ _ _ _ Accepted (sym (ap (λ (o : Machine × Reply). o .1) h) ∙ told))
+      (λ core a b c k h. omega (arith, ap byte (sym is ∙ k)))
+      (e .0) refl refl
+
+  taken-ends : Taken (reply m e) → next m e .setup .ended ≡ true
+  taken-ends t = by-reply (reply m e) refl
+    where
+      by-reply : (r : Reply) → reply m e ≡ r → next m e .setup .ended ≡ true
+      by-reply (Told why) k = absurd (t why k)
+      by-reply (Called core world x) k = call-ends m (e .0) (e .1) core world x k
+
 -- Each line is heeded.
 pub heeded : (m : Machine) → Fit m → (e : Event) → Heeded m e (next m e) (reply m e)
 unfolding performed
 heeded m fit e =
     record {
       refused-frame = λ why k n. refused-same m (e .0) (e .1) why k n;
+      call-answer = λ core is t. shows m fit e core is t;
+      call-told = λ core is k. call-not-told m e core is k;
+      other-told = λ n t. status-only m e n t;
+      set-up-ends = λ t. taken-ends m e t;
+      set-up-goes-on = λ why k. told-goes-on m (e .0) (e .1) why k;
       refused-call = λ core r is t a. call-refused m fit e core is r t a;
-      call-saved = λ core c u j is n k. call-spares m fit e core is c u j n k;
+      dispatched = λ core is t ok. reaches (stateOf m) core (e .1) (right m fit e core is t .seated core (inside m fit e core is t) .world) ok;
+      other-cores = λ core c u j is n. call-spares m fit e core is c u j (λ k. absurd (n k)) (λ k. absurd (n k));
       other-worlds = λ core c u j is n h f. call-spares m fit e core is c u j (λ k. n) (λ k. received (deedIn (stateOf m) core (e .1)) u h f);
+      no-receiver = λ core u j is n h. call-spares m fit e core is core u j (λ k. n) (λ k. h);
+      hand-over = λ core to d. (hands (stateOf m) core (e .1) to d .0, hand-over-asked (sight (stateOf m) core) (e .1) to d);
       handed = λ core to j is t l d h.
           rw (numbers m fit e core is t) (handed-numbers (stateOf m) core (e .1) to d j (right m fit e core is t .whole .saved-whole) (inside m fit e core is t) l h);
       handed-rest = λ core to j is t l d h. rw (numbers m fit e core is t) (handed-rest (stateOf m) core (e .1) to d j (omega arith));
+      finish = λ core d. (finish-asked (sight (stateOf m) core) (e .1) d, finishes (stateOf m) core (e .1) d .1);
       finished = λ core j is t l d h.
           rw (numbers m fit e core is t) (finished-numbers (stateOf m) core (e .1) d j (right m fit e core is t .whole .saved-whole) (inside m fit e core is t) l h);
       finished-rest = λ core j is t d h. rw (numbers m fit e core is t) (finished-rest (stateOf m) core (e .1) d j h);
+      caller-results = λ core j is t h.
+          rw (numbers m fit e core is t) (own-results (stateOf m) core (e .1) j (right m fit e core is t .whole .saved-whole) (inside m fit e core is t) (calling m fit e core is t) h);
+      caller-numbers = λ core j is t l n h.
+          rw (numbers m fit e core is t) (own-frame (stateOf m) core (e .1) j (right m fit e core is t .whole .saved-whole) (inside m fit e core is t) (calling m fit e core is t) (omega arith) (omega arith) n);
+      caller-rest = λ core j is l h.
+          told-or-taken (reply m e)
+          (λ why k. rw (refused-same m (e .0) (e .1) why k (λ z. call-not-told m e core is (rw z at k))))
+          (λ t. rw (numbers m fit e core is t) (own-past (stateOf m) core (e .1) j (omega arith) (omega arith)));
       arrival-saved = λ core c u j is n.
           framed-by m (e .1) (λ (g : Frame) (o : Machine × Reply). e .0 ≡ g → saved (o .0 .saved) c u j ≡ saved (m .saved) c u j)
           (λ why k. refl) (λ g why d k. refl) (λ base pages cores a b k. refl) (λ lowest last kind number a b c k. refl) (λ lowest count to a b c k. refl)
@@ -135,6 +201,4 @@ heeded m fit e =
           (λ core x y z k. absurd (c core k))
           (λ core x y z k. absurd (a core k))
           (e .0) refl;
-      dispatched = λ core is t ok. reaches (stateOf m) core (e .1) (right m fit e core is t .seated core (inside m fit e core is t) .world) ok;
-      ledger-stays = λ k. Stays.ledger-stays m (e .0) (e .1) k;
     }
