@@ -102,18 +102,18 @@ minus n = 2 ^ 64 - n
 abbrev pub anyWorld : List ℕ
 anyWorld = secure ∷ normal ∷ realm ∷ []
 
--- the window is acceptable, and x1 is this address of it
+-- the window is acceptable, and x1 is this address, told from the window
 abbrev pub PageAt : (Window → ℕ) → Call → Type 0
 PageAt place c = (acceptable (window c) ≡ true) × (x c 1 ≡ place (window c))
 
--- x1 is where the caller's only mapping starts, and x2 is half of its size
+-- x1 is where the caller's only mapping starts, and x2 is half of its size, rounded down
 pub record HalfTheOnly (c : Call) : Type 0 where
   pub only : Mapping
   pub list : held (c .before .lists) (world c) ≡ only ∷ []
   pub start : x c 1 ≡ only .virt
   pub half : x c 2 ≡ only .size / 2
 
--- x1 is the calling core, which is ON, and x2 is a multiple of 4 in a page that Normal owns
+-- x1 is the calling core, which is one of the board's and ON, and x2 is a multiple of 4 in a page that Normal owns
 pub record OneselfWell (c : Call) : Type 0 where
   pub oneself : x c 1 ≡ c .core
   pub exists : c .core < c .before .site .cores
@@ -150,7 +150,7 @@ All [] = Unit {0}
 All (r ∷ rs) = Holds r × All rs
 
 -- ---- why each row holds
--- the row of this number, counted from 1
+-- the row behind n others, and the row of this number in the paper
 abbrev nth : List Row → ℕ → Row
 nth [] n = passes 0
 nth (r ∷ rs) zero = r

@@ -1,5 +1,4 @@
 pub mod Runs
-pub mod Asked
 pub mod Named
 pub mod Fit
 pub mod Owners

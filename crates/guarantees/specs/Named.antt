@@ -11,7 +11,7 @@ use Rattle.lines.specs.declared.Status.the-variants.{Accepted}
 use Rattle.lines.specs.declared.Frame.the-variants as Frame
 use Rattle.frames.specs.Frames.{Machine, stateOf}
 use Rattle.frames.specs.declared.Reply.the-variants.{Told}
-use Rattle.guarantees.specs.Asked.{Granted}
+use Rattle.judging.specs.Asked.{Granted}
 use Rattle.guarantees.specs.Runs.{Event, Events, next, reply, ran}
 
 -- ---- what names an owner

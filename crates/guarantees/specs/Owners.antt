@@ -30,7 +30,7 @@ use Rattle.frames.specs.Stays.{framed-by, shown-not-told, settled, call-ends}
 use Rattle.frames.specs.declared.Reply.{Reply}
 use Rattle.frames.specs.declared.Reply.the-variants.{Told, Called}
 use Rattle.guarantees.specs.Runs.{Event, Events, byte, next, reply, ran, ran-two, always}
-use Rattle.guarantees.specs.Asked.{granted-moves, moves-granted}
+use Rattle.judging.specs.Asked.{granted-moves, moves-granted}
 use Rattle.guarantees.specs.Named.{Transfers, Names, Unmoved, Unnamed, LastTransfer, NamedBy, Named, by-transfer, by-set-up, as-before}
 use Rattle.guarantees.specs.Fit.{Fit, fit-next}
 

@@ -15,7 +15,7 @@ Event = Frame × List ℕ
 abbrev pub Events : Type 0
 Events = List Event
 
--- the first byte of a frame, by which its kind is known
+-- the first byte of a frame, by which its kind is known; 0 where there is no frame
 abbrev pub byte : Frame → ℕ
 byte (Frame.Site base pages cores) = 0x11
 byte (Frame.Entry lowest last type number) = 0x10

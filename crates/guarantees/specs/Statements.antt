@@ -39,7 +39,7 @@ use Rattle.frames.specs.declared.Reply.{Reply}
 use Rattle.frames.specs.declared.Reply.the-variants.{Told}
 use Rattle.stream.specs.Run.{textOf}
 use Rattle.guarantees.specs.Runs.{Event, Events}
-use Rattle.guarantees.specs.Asked.{key, HandsTo, Finishes, Reached}
+use Rattle.judging.specs.Asked.{key, HandsTo, Finishes, Reached}
 use Rattle.guarantees.specs.Named.{Named}
 
 abbrev pub window : Machine → Window

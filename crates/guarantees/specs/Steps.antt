@@ -26,7 +26,7 @@ use Rattle.frames.specs.Stays.{framed-by, shown-not-told, refused-same, told-go
 use Rattle.frames.specs.declared.Reply.{Reply}
 use Rattle.frames.specs.declared.Reply.the-variants.{Told, Called}
 use Rattle.guarantees.specs.Runs.{Event, byte, next, reply}
-use Rattle.guarantees.specs.Asked.{hand-over-asked, finish-asked}
+use Rattle.judging.specs.Asked.{hand-over-asked, finish-asked}
 use Rattle.guarantees.specs.Fit.{Fit}
 use Rattle.guarantees.specs.Entries.{reaches}
 use Rattle.guarantees.specs.Statements.{Taken, denied, Heeded}

@@ -1,4 +1,4 @@
--- The theorems: what is stated holds after any lines whatever, from any accepted set-up on, and of whatever keeps the promise of the step.
+-- The theorems: what is stated holds after any lines whatever, from any accepted set-up on, of whatever keeps the promise of the step.
 use mathlib.Core.Path.{_≡_, refl, sym, ap, _∙_}
 use mathlib.Core.Bool.{true}
 use mathlib.Core.List.{List, [], _∷_, _++_, map}
@@ -6,48 +6,64 @@ use mathlib.Core.Logic.{_⊎_, inl, inr}
 use Prim.Native.Nat.{ℕ}
 use native.Mathlib.Omega.{arith}
 use lib.ListN.{length}
+use Rattle.identifiers.specs.Identifier.{admitted}
 use Rattle.ledger.specs.Ledger.{handler}
 use Rattle.ledger.specs.Only.{only}
 use Rattle.ledger.specs.OneHandler.{One, covers}
+use Rattle.ledger.specs.declared.Lookup.{Lookup}
 use Rattle.pages.specs.Owners.{unowned-owner}
+use Rattle.judging.specs.Judge.{calledBy, argsOf, found}
+use Rattle.calls.specs.Step.{sight, judgedIn}
 use Rattle.lines.specs.Frame.{numbers, parsed, parsed-call}
 use Rattle.lines.specs.Lines.{linesOf}
 use Rattle.lines.specs.Input.{reading, readings}
 use Rattle.lines.specs.declared.Frame.{Frame}
 use Rattle.lines.specs.declared.Frame.the-variants as Frame
-use Rattle.frames.specs.Frames.{Machine, first, framed}
+use Rattle.frames.specs.Frames.{Machine, first, stateOf}
 use Rattle.frames.specs.declared.Reply.{Reply}
 use Rattle.frames.specs.declared.Reply.the-variants.{Told, Called}
 use Rattle.stream.specs.Run.{textOf, answers, printed}
-use Rattle.guarantees.specs.Runs.{Event, Events, byte, next, reply, ran, replies, replies-count, Allowed, Follows, carried, follows-is}
+use Rattle.guarantees.specs.Runs.{Event, Events, byte, next, reply, ran, replies, replies-count, Allowed, Follows, carried, follows-is, follows-ran}
+use Rattle.judging.specs.Asked.{key}
+use Rattle.guarantees.specs.Named.{Named, by-transfer, by-set-up, as-before, LastTransfer, Unmoved}
 use Rattle.guarantees.specs.Fit.{first-fit, ran-fit}
-use Rattle.guarantees.specs.Named.{Named, by-transfer, by-set-up, as-before, LastTransfer, NamedBy, Unmoved}
 use Rattle.guarantees.specs.Entries.{entries, one-entry}
-use Rattle.guarantees.specs.Statements.{Guaranteed, Heeded, ownerIn, texts, Shape, status, call}
+use Rattle.guarantees.specs.Statements.{Guaranteed, Taken, Heeded, ownerIn, texts, Shape, status, call}
 use Rattle.guarantees.specs.Steps.{heeded}
 use Rattle.guarantees.specs.After.{guaranteed-after}
 
--- ---- from the first line on
--- After any lines whatever, all that is guaranteed holds.
-pub any-lines : (lines : List (List ℕ)) → let run = map reading lines in Guaranteed first run (ran first run) (replies first run)
-any-lines lines = guaranteed-after first first-fit (map reading lines)
+-- what the ledger says of a call, by the entries that a run has accepted
+pub record Dispatched (run : Events) (m : Machine) (core : ℕ) (xs : List ℕ) : Type 0 where
+  pub says : Lookup
+  -- of these entries one alone covers the call's type and owner, and the ledger names its handler; or none does, and it names nobody
+  pub one : One (only (covers (calledBy xs .fast) (calledBy xs .owner)) (entries first run)) says
+  -- and that handler judges the call, or it is refused
+  pub judged : judgedIn (stateOf m) core xs ≡ found (sight (stateOf m) core .view) (argsOf (calledBy xs) xs) (key xs) says
+
+-- ---- from the first line on: any run that keeps the promise of the step, whatever its lines
+module _ (run : Events) (m : Machine) (given : List Reply) (f : Follows first run m given) where
+  -- All that is guaranteed of the machine and the answers holds.
+  pub any-run : Guaranteed first run m given
+  any-run = carried (Guaranteed first run) f (guaranteed-after first first-fit run)
+
+  module _ (e : Event) (last : Machine) (answer : Reply) (step : Allowed m e last answer) where
+    -- Whatever line comes next is heeded.
+    pub any-line : Heeded m e last answer
+    any-line =
+        rw (ap (λ (o : Machine × Reply). o .0) step, ap (λ (o : Machine × Reply). o .1) step, follows-is f .0) (heeded (ran first run) (ran-fit run) e)
+
+    -- If it is a call that passes the test on bits 23 to 16, it reaches the handler of the one accepted entry that covers it, or nobody.
+    pub any-call : (core : ℕ) → e .0 ≡ Frame.Call core → Taken answer → admitted (calledBy (e .1)) ≡ true → Dispatched run m core (e .1)
+    any-call core is t ok =
+        record { says = handler (m .ledger) (calledBy (e .1) .fast) (calledBy (e .1) .owner); one = rw (follows-is f .0) (one-entry run (calledBy (e .1) .fast) (calledBy (e .1) .owner)); judged = any-line .dispatched core is t ok }
+
+-- Two such runs over the same lines end alike, with the same answers.
+pub runs-alike : (run : Events) (m : Machine) (a b : Machine) (r q : List Reply) → Follows m run a r → Follows m run b q → (a ≡ b) × (r ≡ q)
+runs-alike run m a b r q f g = let h = follows-is f in let k = follows-is g in (h .0 ∙ sym (k .0), h .1 ∙ sym (k .1))
 
 -- Before the first line every page is Root's.
 pub root-first : (page : ℕ) → ownerIn first page ≡ 0
 root-first page = unowned-owner page
-
--- Any line that follows any lines is heeded.
-pub any-line : (before : List (List ℕ)) (line : List ℕ) → let m = ran first (map reading before) in Heeded m (reading line) (next m (reading line)) (reply m (reading line))
-any-line before line = heeded (ran first (map reading before)) (ran-fit (map reading before)) (reading line)
-
--- A line that is a call has eight numbers, as is asked above of a hand-over and a finish.
-pub eight : (line : List ℕ) (core : ℕ) → reading line .0 ≡ Frame.Call core → length (reading line .1) ≡ 8
-unfolding parsed numbers
-eight line core is = ap length (parsed-call line [] (reading line .1) (reading line .0) refl (rw is))
-
--- Of the entries that any lines have set up, one alone covers a pair of type and owner, and its handler takes the pair's calls; or none does, and nobody takes them.
-pub one-handler : (lines : List (List ℕ)) (kind owner : ℕ) → let run = map reading lines in One (only (covers kind owner) (entries first run)) (handler (ran first run .ledger) kind owner)
-one-handler lines kind owner = one-entry (map reading lines) kind owner
 
 -- ---- from any accepted set-up on
 -- a call on a core with its eight numbers, or the arrival of a core; whether it is accepted or refused
@@ -58,12 +74,6 @@ pub data Step : Type 0 where
 abbrev pub event : Step → Event
 event (calls core xs) = (Frame.Call core, xs)
 event (arrives core) = (Frame.Arrival core, [])
-
--- lines after which set-up has been accepted
-pub record SetUp (m : Machine) : Type 0 where
-  pub lines : List (List ℕ)
-  pub is : m ≡ ran first (map reading lines)
-  pub ready : m .setup .ready ≡ true
 
 -- a step is no set-up line, and so none of a run of steps is
 no-name : (s : Step) (line : Event) (lowest count to : ℕ) → event s ≡ line → line .0 ≡ Frame.Name lowest count to → ⊥
@@ -77,23 +87,32 @@ none-names [] (b ∷ before) line later lowest count to e k = let z : _≡_ {A =
 none-names (s ∷ steps) [] line later lowest count to e k = let h : event s ≡ line = cc in no-name s line lowest count to h k
 none-names (s ∷ steps) (b ∷ before) line later lowest count to e k = let h : map event steps ≡ before ++ line ∷ later = cc in none-names steps before line later lowest count to h k
 
-module _ (m : Machine) (s : SetUp m) (steps : List Step) where
+-- set-up lines, a run of steps after them, and what keeps the promise of the step all the way
+module _ (lines : Events) (m : Machine) (told : List Reply) (set-up : Follows first lines m told) (accepted : m .setup .ready ≡ true)
+    (steps : List Step) (last : Machine) (given : List Reply) (run : Follows m (map event steps) last given) where
   -- After any run of calls and arrivals, refused ones among them, all that is guaranteed holds.
-  pub any-steps : Guaranteed m (map event steps) (ran m (map event steps)) (replies m (map event steps))
-  any-steps = rw (s .is) (guaranteed-after (ran first (map reading (s .lines))) (ran-fit (map reading (s .lines))) (map event steps))
+  pub any-steps : Guaranteed m (map event steps) last given
+  any-steps = carried (Guaranteed m (map event steps)) run (rw (follows-is set-up .0) (guaranteed-after (ran first lines) (ran-fit lines) (map event steps)))
 
   -- The owner of a page is named by the last granted transfer of the page, or by the set-up, if there was none.
-  pub owner-since : (page : ℕ) → LastTransfer m (map event steps) page (ownerIn (ran m (map event steps)) page)
-      ⊎ (Unmoved m (map event steps) page × (ownerIn (ran m (map event steps)) page ≡ ownerIn m page))
-  owner-since page = which _ refl (any-steps .owner-named page)
+  pub owner-since : (page : ℕ) → LastTransfer m (map event steps) page (ownerIn last page) ⊎ (Unmoved m (map event steps) page × (ownerIn last page ≡ ownerIn m page))
+  owner-since page = which _ (any-steps .owner-named page)
     where
-      which : (to : ℕ) → ownerIn (ran m (map event steps)) page ≡ to → Named m (map event steps) page to
-          → LastTransfer m (map event steps) page to ⊎ (Unmoved m (map event steps) page × (to ≡ ownerIn m page))
-      which to e (by-transfer l) = inl l
-      which to e (by-set-up u n) = absurd (none-names steps (n .before) (n .line) (n .later) (n .named .lowest) (n .named .count) to (n .stands) (n .named .is-name))
-      which to e (as-before u n) = inr (u, refl)
+      which : (to : ℕ) → Named m (map event steps) page to → LastTransfer m (map event steps) page to ⊎ (Unmoved m (map event steps) page × (to ≡ ownerIn m page))
+      which to (by-transfer l) = inl l
+      which to (by-set-up u n) = absurd (none-names steps (n .before) (n .line) (n .later) (n .named .lowest) (n .named .count) to (n .stands) (n .named .is-name))
+      which to (as-before u n) = inr (u, refl)
 
--- ---- answers
+-- ---- lines and bytes
+-- So it is after any lines, as the definitions answer them.
+pub any-lines : (lines : List (List ℕ)) → let run = map reading lines in Guaranteed first run (ran first run) (replies first run)
+any-lines lines = any-run (map reading lines) _ _ (follows-ran first (map reading lines))
+
+-- A line that is a call has eight numbers, as is asked of a hand-over and a finish.
+pub eight : (line : List ℕ) (core : ℕ) → reading line .0 ≡ Frame.Call core → length (reading line .1) ≡ 8
+unfolding parsed numbers
+eight line core is = ap length (parsed-call line [] (reading line .1) (reading line .0) refl (rw is))
+
 said : (run : Events) (m : Machine) → answers m run ≡ texts (replies m run)
 unfolding answers replies texts
 said [] m = refl
@@ -108,25 +127,7 @@ pub printed-answers : (m : Machine) (input : List ℕ) → (printed m input ≡ 
 unfolding printed readings
 printed-answers m input = (said (readings input) m, replies-count m (readings input) ∙ read-all (linesOf input))
 
--- Each answer has one of the two shapes.
+-- Each answer has one of two shapes: a status, or what a call shows.
 pub answer-shape : (r : Reply) → Shape (textOf r)
 answer-shape (Told why) = status why
 answer-shape (Called core world x) = call core world (x .x0) (x .x1) (x .x2) (x .x3)
-
--- ---- whatever keeps the promise
--- Whatever run has only steps that the promise of the step allows has all of it.
-pub promised-run : (lines : List (List ℕ)) (last : Machine) (given : List Reply) → Follows first (map reading lines) last given → Guaranteed first (map reading lines) last given
-promised-run lines last given f = carried (Guaranteed first (map reading lines)) f (any-lines lines)
-
--- And so has each of its lines.
-pub promised-line : (before : List (List ℕ)) (line : List ℕ) (m last : Machine) (given : List Reply) (answer : Reply)
-    → Follows first (map reading before) m given → Allowed m (reading line) last answer → Heeded m (reading line) last answer
-promised-line before line m last given answer f h =
-    let k = follows-is f .0 in
-    let a = ap (λ (o : Machine × Reply). o .0) h in
-    let b = ap (λ (o : Machine × Reply). o .1) h in
-    rw (a, b, k) (any-line before line)
-
--- Two runs that the promise allows on the same lines end alike, with the same answers.
-pub promised-alike : (lines : List (List ℕ)) (a b : Machine) (r q : List Reply) → Follows first (map reading lines) a r → Follows first (map reading lines) b q → (a ≡ b) × (r ≡ q)
-promised-alike lines a b r q f g = let h = follows-is f in let k = follows-is g in (h .0 ∙ sym (k .0), h .1 ∙ sym (k .1))

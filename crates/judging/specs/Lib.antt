@@ -2,3 +2,4 @@ pub mod Names
 pub mod Judge
 pub mod Laws
 pub mod Grounds
+pub mod Asked
