@@ -1,9 +1,9 @@
--- Each line answered moves bytes from what is still to be printed to what was printed, whatever bytes follow; the loop ends since each line has its newline.
+-- Each line answered moves bytes from what is still to be printed to what was printed, whatever bytes follow; the loop ends since each line has its newline, and stops where no answer fits or no line is whole.
 use Prim.Native.Nat.{_-_}
 use borrow.Author.Needs.{needs}
 use lib.ListN.{length}
 use Rattle.frames.specs.Frames.{machine}
-use Rattle.stream.specs.Run.{Feeds, feeds-none, reads-on, feeds-on}
+use Rattle.stream.specs.Run.{Feeds, throughs, feeds-none, reads-on, feeds-on}
 use Rattle.stream.proofs.feed.Statement.{statement}
 use Rattle.stream.proofs.feed.Tie as tie
 
@@ -25,7 +25,7 @@ same-length : tie.Need-same-length Inv-loop μ-loop
 same-length c = search needs
 
 returns : tie.Need-returns Inv-loop μ-loop
-returns c = search needs
+returns c = search (needs, throughs)
 
 next-line-requires : tie.Need-next-line-requires Inv-loop μ-loop
 next-line-requires c κs = search needs
@@ -40,7 +40,7 @@ same-length-2 : tie.Need-same-length-2 Inv-loop μ-loop
 same-length-2 c = search needs
 
 returns-2 : tie.Need-returns-2 Inv-loop μ-loop
-returns-2 c = search needs
+returns-2 c = search (needs, throughs)
 
 answer-requires : tie.Need-answer-requires Inv-loop μ-loop
 answer-requires c κs = search needs
@@ -57,7 +57,7 @@ same-length-3 : tie.Need-same-length-3 Inv-loop μ-loop
 same-length-3 c = search needs
 
 returns-3 : tie.Need-returns-3 Inv-loop μ-loop
-returns-3 c = search needs
+returns-3 c = search (needs, throughs)
 
 pub feed-spec : {M : Type 1} → statement M
 feed-spec =
