@@ -111,6 +111,15 @@ module _ (s : List ℕ) (from to : ℕ) where
       pub carry-size : length s′ ≡ length s
       carry-size = rw front (length-fronted s from r inside)
 
+      -- it has no newline where the whole had none
+      pub carry-line : Unbroken (part s from to) → Unbroken (take r s′)
+      carry-line u k b z =
+          let e : take r s′ ≡ take r (drop from s) = rw front (take-fronted s from r inside) in
+          let n : length (take r s′) ≡ r = rw e (front-length s from r inside) in
+          let l : length (part s from to) ≡ to - from = front-length s from (to - from) (omega arith) in
+          let c : k < to - from = omega (arith, kept) in
+          u k (omega arith) (getD-take (to - from) (drop from s) k 0 c ∙ sym (getD-take r (drop from s) k 0 (omega arith)) ∙ rw e at z)
+
       pub carry-readings : Unbroken (part s from to) → (more : List ℕ) → readings (take r s′ ++ more) ≡ readings (part s from to ++ more)
       carry-readings u more =
           rw (front, take-fronted s from r inside)

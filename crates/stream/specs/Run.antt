@@ -77,7 +77,7 @@ numbers-idle m (Frame.Arrival core) ys = refl
 numbers-idle m (Frame.Refused why) ys = refl
 
 -- the longest answer has 71 bytes
-text-short : (r : Reply) → length (textOf r) ≤ 71
+pub text-short : (r : Reply) → length (textOf r) ≤ 71
 text-short (Told s) = let e = length-status s in omega arith
 text-short (Called core world shown) = let e = length-call core world (shown .x0) (shown .x1) (shown .x2) (shown .x3) in omega arith
 
