@@ -1,6 +1,6 @@
 -- Where bytes wait, they get their newline and are one line: one feed answers it and leaves nothing.
 use borrow.Author.Needs.{needs}
-use Rattle.console.specs.Loop.{finished-none, finished-line}
+use Rattle.console.specs.Last.{finished-none, finished-line}
 use Rattle.console.proofs.finish.Statement.{statement}
 use Rattle.console.proofs.finish.Tie as tie
 

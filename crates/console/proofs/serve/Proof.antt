@@ -29,7 +29,7 @@ turn-requires c κs =
     let v = c .before .before .before .before .before .before .before .before .before .before .before .before .before .before .loop .inv in
     let f = c .before .before .before .before .before .before .before .before .before .before .before .fill in
     let k = c .before .before .before .before .before .before .before .before .before .before .before .before .before .before .before .before .before .pre in
-    (omega (arith, v .0 .few, v .1, f .kept .0, k .0), f .ensures .1, line-same (v .0) (f .last .0) (f .result) (f .ensures .2), omega (arith, v .2, k .1))
+    (omega (arith, v .0 .waits .few, v .1, f .kept .0, k .0), f .ensures .1, line-same (v .0) (f .last .0) (f .result) (f .ensures .2), omega (arith, v .2, k .1))
 
 same-length : tie.Need-same-length Inv-loop μ-loop
 same-length c = c .before .before .before .before .before .before .before .turn .kept .1 .0 ∙ c .before .before .before .before .before .before .before .before .before .before .before .before .before .before .before .before .before .before .before .fill .kept .0 ∙ c .before .before .before .before .before .before .before .before .before .before .before .before .before .before .before .before .before .before .before .before .before .before .loop .inv .1
