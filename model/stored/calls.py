@@ -16,14 +16,14 @@ def page(number):
 
 def calls():
     s = Script()
-    s.part("set-up: 40 pages at FFFE0000, 3 cores; Normal 0 to 23, 32 to 35 and 39, Secure 24 to 27, Realm 28 to 31, Root 36 by name, 37 and 38 unnamed")
-    s.window(0, B, 40, 3)
+    s.part("set-up: 40 pages at FFFE0000, 8 cores; Normal 0 to 23, 32 to 35 and 39, Secure 24 to 27, Realm 28 to 31, Root 36 by name, 37 and 38 unnamed")
+    s.window(0, B, 40, 8)
     for entry in ((0, 1, 1, 0), (2, 2, 1, 1), (4, 4, 1, 2), (48, 63, 1, 3), (0, 0, 0, 0), (2, 2, 0, 1), (4, 4, 0, 2),
                   (50, 50, 0, 3)):
         s.ledger(0, *entry)
     for span in ((0, 24, 2), (24, 4, 1), (28, 4, 3), (32, 4, 2), (36, 1, 0), (39, 1, 2)):
         s.pages(0, *span)
-    before_the_arguments(s)
+    before_the_arguments(s, "N0")
     architecture(s, "N0")
     core_power(s)
     starts(s)
@@ -42,19 +42,21 @@ def calls():
     s.call("N0", "R", 0xC4000150)
     realm(s)
     two_cores(s)
+    every_core(s)
     return s
 
 
-def before_the_arguments(s):
-    s.part("-1 before the arguments: bits 23 to 16 of a fast call, no entry in the ledger, no such identifier, the other width, a yielding twin")
+def before_the_arguments(s, who):
+    s.part(f"{who}: -1 before the arguments: bits 23 to 16 of a fast call, no entry in the ledger, no such identifier, the other width, a yielding twin")
     for identifier in (0x84010000, 0x80800000, 0xC2FF0030, 0xC4010150, 0xF2010001, 0x86000000, 0xC3000010, 0x40000150 | 5 << 24,
                        0x84000001, 0x80000002, 0x81000000, 0xC2000013, 0xC2000031, 0xC400014F, 0xC40001AF, 0xC40001B2,
                        0xC0000000, 0xC4000000, 0xC4000002, 0xC400000A, 0x82000012, 0x840001B0, 0x84000150, 0x00000000,
                        0x42000030, 0x04000000, 0x44000150, 0x04010000):
-        s.call("N0", -1, identifier)
-    s.part("the high half of x0 does not count")
-    s.call("N0", 0x10001, JUNK + 0x84000000)
-    s.call("N0", -1, TOP - 1)
+        s.call(who, -1, identifier)
+    s.part(f"{who}: the high half of x0 does not count")
+    s.call(who, 0x10002, JUNK + 0x80000000)
+    s.call(who, 0x10001 if who == "N0" else -1, JUNK + 0x84000000)
+    s.call(who, -1, TOP - 1)
 
 
 def architecture(s, who):
@@ -72,22 +74,23 @@ def core_power(s):
         s.call("N0", 0, 0x8400000A, asked)
     for asked in (0x80000001, 0x84000001, 0x84000005, 0xC4000000, 0xC4000002, 0xC400000A, 0xC40001B0, 0xC4000150, 0xF2000000, 0):
         s.call("N0", -1, 0x8400000A, asked)
-    s.part("core state of an ON and an OFF core; -2 for core 3, for level 1, and for high halves in the 64-bit call alone")
+    s.part("core state of an ON and an OFF core; -2 for core 8, for level 1, and for high halves in the 64-bit call alone")
     for identifier in (0x84000004, 0xC4000004):
         s.call("N0", 0, identifier, 0, 0)
         s.call("N0", 1, identifier, 2, 0)
-        s.call("N0", -2, identifier, 3, 0)
+        s.call("N0", 1, identifier, 7, 0)
+        s.call("N0", -2, identifier, 8, 0)
         s.call("N0", -2, identifier, 0, 1)
-        s.call("N0", -2, identifier, 3, 1)
+        s.call("N0", -2, identifier, 8, 1)
     s.call("N0", 0, 0x84000004, JUNK, JUNK)
     s.call("N0", -2, 0xC4000004, JUNK, 0)
     s.call("N0", -2, 0xC4000004, 0, JUNK)
 
 
 def starts(s):
-    s.part("start: -2 for core 3 before the address; -9 for every bad address, also for a core that is ON; -4 for oneself")
+    s.part("start: -2 for core 8 before the address; -9 for every bad address, also for a core that is ON; -4 for oneself")
     for identifier in (0x84000003, 0xC4000003):
-        s.call("N0", -2, identifier, 3, 1, 0)
+        s.call("N0", -2, identifier, 8, 1, 0)
         for address in (B + 1, B + 2, B - 4, page(24), page(28)):
             s.call("N0", -9, identifier, 1, address, 0)
         s.call("N0", -9, identifier, 0, B + 3, 0)
@@ -124,9 +127,10 @@ def starts(s):
 
 
 def normal_refusals(s):
-    s.part("-1 from Normal: transfers, granule calls, both finishes")
+    s.part("-1 from Normal: transfers, granule calls, both finishes, whatever the arguments")
     for identifier in (0xC2000010, 0xC2000011) + FOR_REALM + (0xF2000000,):
         s.call("N0", -1, identifier, B, 1)
+        s.call("N0", -1, identifier, B + 1, 0)
 
 
 def board(s, who, own, other):
@@ -222,6 +226,7 @@ def several(s, who, own, other):
     s.call(who, 0, 0xC2000020, page(12), 0, P, 1)
     for start, count, answer in (
             (page(11), 0, -5), (page(11) + 1, 1, -2), (E, 1, -2), (page(11), 30, -2), (page(10), 2, -3), (page(11), 3, -3),
+            (other, 1, -3), (page(36), 1, -3),
             (page(11), 2, -6), (page(12), 1, -6), (page(11), 1, 0)):
         s.call(who, answer, 0xC2000011, start, count)
     s.call(who, 0, 0xC2000021, 0, P)
@@ -234,6 +239,7 @@ def shared(s, who, own, other):
     s.call("N1", 0, 0xC2000020, page(10), 0, P, 0)
     several(s, who, own, other)
     s.call("N1", 0, 0xC2000021, 0, P)
+    before_the_arguments(s, who)
     architecture(s, who)
     s.part(f"{who}: how many cores are ON")
     s.call(who, 3, 0xC2000030)
@@ -279,11 +285,36 @@ def two_cores(s):
     s.call("S0", (0, page(24) + 1, 1), 0xC2000022, 1)
     s.call("R2", -14, 0xC2000022, 1)
     s.call("R2", -1, 0xF2000000)
+    s.call("R2", -3, 0xC40001B0, page(24))
+    s.call("R2", -3, 0xC2000010, page(24), 1)
     s.call("S0", 0, 0xC2000021, 0, P)
     s.call("S1", -14, 0xC2000022, 1)
     s.call("S1", "N", 0xF2000000)
     s.call("R2", "N", 0xC400018F)
     s.call("S0", "N", 0xF2000000)
+
+
+def every_core(s):
+    s.part("the other cores start one by one; with 8 to 1 of them ON, each world counts them")
+    for core in range(3, 8):
+        s.call("N0", 0, 0xC4000003, core, B, 0)
+        s.call("N0", core, 0xC2000030)
+        s.arrive(0, core)
+        s.call(f"N{core}", core + 1, 0xC2000030)
+    counted(s, 8)
+    for core in range(7, 0, -1):
+        s.call(f"N{core}", "off", 0x84000002)
+        counted(s, core)
+
+
+def counted(s, cores):
+    s.call("N0", cores, 0xC2000030)
+    s.call("N0", "S", 0xF2000001)
+    s.call("S0", cores, 0xC2000030)
+    s.call("S0", "N", 0xF2000000)
+    s.call("N0", "R", 0xC4000150)
+    s.call("R0", cores, 0xC2000030)
+    s.call("R0", "N", 0xC400018F)
 
 
 def elsewhere():
