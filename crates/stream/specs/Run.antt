@@ -67,7 +67,7 @@ Through s at out done = 71 ≤ length out - done → Unbroken (drop at s)
 
 -- ---- one frame more
 -- a frame that is no call has no use for the numbers beside it
-numbers-idle : (m : Machine) (f : Frame) (ys : List ℕ) → framed m f (pick (isCall f) ys []) ≡ framed m f ys
+pub numbers-idle : (m : Machine) (f : Frame) (ys : List ℕ) → framed m f (pick (isCall f) ys []) ≡ framed m f ys
 unfolding framed pick
 numbers-idle m (Frame.Site base pages cores) ys = refl
 numbers-idle m (Frame.Entry first last kind number) ys = refl

@@ -2,7 +2,8 @@
 ghost use mathlib.Core.Path.{_≡_};
 ghost use Rattle.text.specs.Text.{put};
 ghost use Rattle.frames.specs.Frames.{machine};
-ghost use Rattle.stream.specs.Run.{textOf, answered, Feeds, Through};
+ghost use Rattle.stream.specs.Run.{textOf, answered};
+ghost use Rattle.stream.specs.Fed.{stand, fed};
 use cores::Powers;
 use cores::Turns;
 use frames::Reply;
@@ -86,7 +87,7 @@ pub fn feed(
     turns: &mut Turns,
     lists: &mut Lists,
 ) -> Fed
-    ensures { λ r. ⌜ Feeds (now (chunk .entry)) (machine setup (now (named .entry)) (now (book .entry)) (now (owners .entry)) (now (saved .entry)) (now (powers .entry)) (now (turns .entry)) (now (lists .entry))) 0 (now (out .entry)) 0 (machine (r .setup) (now (named .exit)) (now (book .exit)) (now (owners .exit)) (now (saved .exit)) (now (powers .exit)) (now (turns .exit)) (now (lists .exit))) (r .used) (now (out .exit)) (r .put) × Through (now (chunk .entry)) (r .used) (now (out .exit)) (r .put) ⌝ }
+    ensures { λ r. ⌜ stand (machine (r .setup) (now (named .exit)) (now (book .exit)) (now (owners .exit)) (now (saved .exit)) (now (powers .exit)) (now (turns .exit)) (now (lists .exit))) (r .used) (r .put) (now (out .exit)) ≡ fed (now (chunk .entry)) (stand (machine setup (now (named .entry)) (now (book .entry)) (now (owners .entry)) (now (saved .entry)) (now (powers .entry)) (now (turns .entry)) (now (lists .entry))) 0 0 (now (out .entry))) ⌝ }
 {
     let mut x = [0u64; 8];
     let mut s = setup;

@@ -1,6 +1,7 @@
 -- Each feed answers the lines from `at` on, so the bytes from `at + used` on are what is left; a feed that uses nothing finds no whole line, since there is room for an answer.
 use Prim.Native.Nat.{_-_}
 use borrow.Author.Needs.{needs}
+use Rattle.stream.specs.Fed.{fed-feeds}
 use lib.ListN.{length, length-drop}
 use mathlib.Core.Path.{_≡_, refl}
 use mathlib.Core.Bool.{true, false}
@@ -37,11 +38,11 @@ same-length : tie.Need-same-length Inv-loop μ-loop
 same-length c = search needs
 
 returns : tie.Need-returns Inv-loop μ-loop
-returns c = drained-none (c .before .before .before .before .before .before .before .before .before .before .before .before .before .before .before .loop .inv .0) (c .before .before .before .before .feed .ensures) true (search needs) (search needs)
+returns c = drained-none (c .before .before .before .before .before .before .before .before .before .before .before .before .before .before .before .loop .inv .0) (fed-feeds _ _ _ _ _ _ _ (c .before .before .before .before .feed .ensures)) true (search needs) (search needs)
 
 add-at : tie.Need-add-at Inv-loop μ-loop
 add-at c = let d = c .before .before .before .before .before .before .before .before .before .before .before .before .before .before .before .loop .inv .0 in
-    let m = draining-more d (c .before .before .before .before .feed .ensures) in
+    let m = draining-more d (fed-feeds _ _ _ _ _ _ _ (c .before .before .before .before .feed .ensures)) in
     omega (arith, m .inside, c .before .before .before .before .before .before .before .before .before .before .before .before .before .before .before .before .before .before .good)
 
 sub-write-all : tie.Need-sub-write-all Inv-loop μ-loop
@@ -51,7 +52,7 @@ part-write-all-start : tie.Need-part-write-all-start Inv-loop μ-loop
 part-write-all-start c = search needs
 
 part-write-all-end : tie.Need-part-write-all-end Inv-loop μ-loop
-part-write-all-end c = search needs
+part-write-all-end c = let f = fed-feeds _ _ _ _ _ _ _ (c .before .before .before .before .before .feed .ensures) .0 in search needs
 
 write-all-requires : tie.Need-write-all-requires Inv-loop μ-loop
 write-all-requires c κs = search needs
@@ -60,14 +61,14 @@ same-length-2 : tie.Need-same-length-2 Inv-loop μ-loop
 same-length-2 c = search needs
 
 returns-2 : tie.Need-returns-2 Inv-loop μ-loop
-returns-2 c = drained-more (c .before .before .before .before .before .before .before .before .before .before .before .before .before .before .before .before .before .before .before .loop .inv .0) (c .before .before .before .before .before .before .before .before .feed .ensures) false refl
+returns-2 c = drained-more (c .before .before .before .before .before .before .before .before .before .before .before .before .before .before .before .before .before .before .before .loop .inv .0) (fed-feeds _ _ _ _ _ _ _ (c .before .before .before .before .before .before .before .before .feed .ensures)) false refl
 
 loop-less : tie.Need-loop-less Inv-loop μ-loop
-loop-less c = let m = draining-more (c .before .before .before .before .before .before .before .before .before .before .before .before .before .before .before .before .before .before .before .loop .inv .0) (c .before .before .before .before .before .before .before .before .feed .ensures) in
+loop-less c = let m = draining-more (c .before .before .before .before .before .before .before .before .before .before .before .before .before .before .before .before .before .before .before .loop .inv .0) (fed-feeds _ _ _ _ _ _ _ (c .before .before .before .before .before .before .before .before .feed .ensures)) in
     omega (arith, m .inside, c .before .before .before .before .if1)
 
 loop-again : tie.Need-loop-again Inv-loop μ-loop
-loop-again c = (draining-more (c .before .before .before .before .before .before .before .before .before .before .before .before .before .before .before .before .before .before .before .loop .inv .0) (c .before .before .before .before .before .before .before .before .feed .ensures), omega (arith, c .before .before .before .before .before .before .before .before .before .before .before .before .before .before .before .before .before .before .before .loop .inv .1, c .before .before .before .before .before .before .before .before .feed .ensures .0 .size))
+loop-again c = (draining-more (c .before .before .before .before .before .before .before .before .before .before .before .before .before .before .before .before .before .before .before .loop .inv .0) (fed-feeds _ _ _ _ _ _ _ (c .before .before .before .before .before .before .before .before .feed .ensures)), omega (arith, c .before .before .before .before .before .before .before .before .before .before .before .before .before .before .before .before .before .before .before .loop .inv .1, fed-feeds _ _ _ _ _ _ _ (c .before .before .before .before .before .before .before .before .feed .ensures) .0 .size))
 
 same-length-3 : tie.Need-same-length-3 Inv-loop μ-loop
 same-length-3 c = search needs

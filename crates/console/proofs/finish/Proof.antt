@@ -1,5 +1,6 @@
 -- Where bytes wait, they get their newline and are one line: one feed answers it and leaves nothing.
 use borrow.Author.Needs.{needs}
+use Rattle.stream.specs.Fed.{fed-feeds}
 use Rattle.console.specs.Last.{finished-none, finished-line}
 use Rattle.console.proofs.finish.Statement.{statement}
 use Rattle.console.proofs.finish.Tie as tie
@@ -32,7 +33,7 @@ part-write-all-start : tie.Need-part-write-all-start
 part-write-all-start c = search needs
 
 part-write-all-end : tie.Need-part-write-all-end
-part-write-all-end c = search needs
+part-write-all-end c = let f = fed-feeds _ _ _ _ _ _ _ (c .before .before .before .before .feed .ensures) .0 in search needs
 
 write-all-requires : tie.Need-write-all-requires
 write-all-requires c κs = search needs
@@ -44,7 +45,7 @@ same-length-2 : tie.Need-same-length-2
 same-length-2 c = search needs
 
 returns-2 : tie.Need-returns-2
-returns-2 c = finished-line (c .before .before .before .before .before .before .before .before .before .before .before .before .before .before .before .before .before .before .before .before .args .buf .now) (c .before .before .before .before .before .before .before .before .before .before .before .before .before .before .before .before .before .before .before .before .args .kept) _ (search needs) (c .before .before .before .before .before .before .before .before .before .before .before .before .before .before .before .before .before .before .before .before .pre .1) (search needs) (search needs) (c .before .before .before .before .before .before .feed .ensures)
+returns-2 c = finished-line (c .before .before .before .before .before .before .before .before .before .before .before .before .before .before .before .before .before .before .before .before .args .buf .now) (c .before .before .before .before .before .before .before .before .before .before .before .before .before .before .before .before .before .before .before .before .args .kept) _ (search needs) (c .before .before .before .before .before .before .before .before .before .before .before .before .before .before .before .before .before .before .before .before .pre .1) (search needs) (search needs) (fed-feeds _ _ _ _ _ _ _ (c .before .before .before .before .before .before .feed .ensures))
 
 pub finish-spec : {M : Type 1} → statement M
 finish-spec =

@@ -3,20 +3,23 @@ use Prim.Native.Nat.{_-_}
 use borrow.Author.Needs.{needs}
 use lib.ListN.{length}
 use Rattle.frames.specs.Frames.{machine}
-use Rattle.stream.specs.Run.{Feeds, throughs, feeds-none, reads-on, feeds-on}
+use mathlib.Core.Path.{_≡_, refl}
+use Rattle.stream.specs.Run.{Feeds, feeds-none, reads-on, feeds-on}
+use Rattle.stream.specs.Fed.{stand, fed, stops, goes-on}
 use Rattle.stream.proofs.feed.Statement.{statement}
 use Rattle.stream.proofs.feed.Tie as tie
 
 abbrev Inv-loop : tie.InvT-loop
 Inv-loop chunk out₀ book₀ named₀ owners₀ saved₀ powers₀ turns₀ lists₀ x₀ s₀ at₀ put₀ out book named owners saved powers turns lists x s at put =
-    Feeds chunk (machine s₀ named₀ book₀ owners₀ saved₀ powers₀ turns₀ lists₀) at₀ out₀ put₀ (machine s named book owners saved powers turns lists) at out put
+    (fed chunk (stand (machine s named book owners saved powers turns lists) at put out) ≡ fed chunk (stand (machine s₀ named₀ book₀ owners₀ saved₀ powers₀ turns₀ lists₀) at₀ put₀ out₀))
+    × Feeds chunk (machine s₀ named₀ book₀ owners₀ saved₀ powers₀ turns₀ lists₀) at₀ out₀ put₀ (machine s named book owners saved powers turns lists) at out put
 
 abbrev μ-loop : tie.MeasureT-loop
 μ-loop chunk out₀ book₀ named₀ owners₀ saved₀ powers₀ turns₀ lists₀ x₀ s₀ at₀ put₀ out book named owners saved powers turns lists x s at put =
     length chunk - at
 
 loop-holds : tie.Need-loop-holds Inv-loop μ-loop
-loop-holds c = search feeds-none
+loop-holds c = (refl, search feeds-none)
 
 sub-if1 : tie.Need-sub-if1 Inv-loop μ-loop
 sub-if1 c = search needs
@@ -25,7 +28,7 @@ same-length : tie.Need-same-length Inv-loop μ-loop
 same-length c = search needs
 
 returns : tie.Need-returns Inv-loop μ-loop
-returns c = search (needs, throughs)
+returns c = search (needs, stops)
 
 next-line-requires : tie.Need-next-line-requires Inv-loop μ-loop
 next-line-requires c κs = search needs
@@ -40,7 +43,7 @@ same-length-2 : tie.Need-same-length-2 Inv-loop μ-loop
 same-length-2 c = search needs
 
 returns-2 : tie.Need-returns-2 Inv-loop μ-loop
-returns-2 c = search (needs, throughs)
+returns-2 c = search (needs, stops)
 
 answer-requires : tie.Need-answer-requires Inv-loop μ-loop
 answer-requires c κs = search needs
@@ -50,14 +53,18 @@ loop-less c = search reads-on
 
 loop-again : tie.Need-loop-again Inv-loop μ-loop
 loop-again c =
-    feeds-on _ _ _ _ _ (c .before .before .before .before .before .before .before .before .before .before .before .before .before .before .before .before .next-line .ensures) _ _ (search needs) _ _ _ _ _ _ _
-    (c .before .before .before .before .before .before .before .before .before .before .before .before .before .before .before .before .before .before .before .before .loop .inv) (search needs) _ _ _ (c .before .before .before .answer .ensures)
+    let line = c .before .before .before .before .before .before .before .before .before .before .before .before .before .before .before .before .next-line .ensures in
+    let inv = c .before .before .before .before .before .before .before .before .before .before .before .before .before .before .before .before .before .before .before .before .loop .inv in
+    let told = c .before .before .before .answer .ensures in (
+      goes-on _ _ _ _ _ _ (inv .0) _ _ _ line _ _ (search needs) (search needs) _ _ _ told,
+      feeds-on _ _ _ _ _ line _ _ (search needs) _ _ _ _ _ _ _ (inv .1) (search needs) _ _ _ told,
+    )
 
 same-length-3 : tie.Need-same-length-3 Inv-loop μ-loop
 same-length-3 c = search needs
 
 returns-3 : tie.Need-returns-3 Inv-loop μ-loop
-returns-3 c = search (needs, throughs)
+returns-3 c = search (needs, stops)
 
 pub feed-spec : {M : Type 1} → statement M
 feed-spec =

@@ -1,0 +1,182 @@
+-- How far one feed goes: line by line, while there is room for the longest answer, up to a line that lacks its newline.
+use mathlib.Core.Path.{_≡_, refl, sym, ap, subst, _∙_}
+use mathlib.Core.Bool.{Bool, true, false}
+use mathlib.Core.List.{List, []}
+use Prim.Native.Nat.{ℕ, zero, suc, _+_, _-_, _≤_, _<_}
+use native.Mathlib.Omega.{arith}
+use lib.Dec.{ltb}
+use lib.ListN.{length}
+use borrow.Author.Tests.{lt-ltb, le-ltb, ltb-true, ltb-false}
+use Rattle.rules.specs.Choice.{pick, chosen, pick-yes, pick-no, either}
+use Rattle.lines.specs.Frame.{isCall, parsed}
+use Rattle.lines.specs.Lines.{endOf, lineAt, lined, nextOf, end-from}
+use Rattle.lines.specs.Input.{reading-of, Found, next-found, next-unfinished, next-inside}
+use Rattle.lines.specs.declared.Frame.{Frame}
+use Rattle.lines.specs.declared.Next.{Next}
+use Rattle.lines.specs.declared.Next.the-variants.{Line, Unfinished}
+use Rattle.text.specs.Text.{put}
+use Rattle.frames.specs.Frames.{Machine, framed}
+use Rattle.frames.specs.declared.Reply.{Reply}
+use Rattle.stream.specs.Run.{textOf, answered, numbers-idle, Feeds, Through, feeds-none, feeds-more, through-full, through-end, through-line}
+
+-- where a feed stands: the machine, how far it has read, and how much of what it prints to
+pub record Stand : Type 0 where
+  pub machine : Machine
+  pub read : ℕ
+  pub done : ℕ
+  pub out : List ℕ
+
+abbrev pub stand : Machine → ℕ → ℕ → List ℕ → Stand
+stand m at done out = record { machine = m; read = at; done = done; out = out }
+
+-- once a line is answered that ends before `after`
+abbrev pub stepped : Stand → Frame → ℕ → List ℕ → Stand
+stepped d f after xs = let a = answered (d .machine) f xs (d .out) (d .done) in stand (a .0) after (a .1 .0) (a .1 .1)
+
+-- a whole line is answered, and then the feed goes on; else it stays
+abbrev pub onward : Stand → (Stand → Stand) → Next × List ℕ → Stand
+onward d go (Line f after, xs) = go (stepped d f after xs)
+onward d go (Unfinished, xs) = d
+
+-- at most n lines, each with room for the longest answer
+unfoldable pub fedIn : ℕ → List ℕ → Stand → Stand
+fedIn zero s d = d
+fedIn (suc n) s d = pick (ltb (length (d .out) - d .done) 71) d (onward d (fedIn n s) (nextOf s (d .read) []))
+
+-- there are no more lines than bytes
+unfoldable pub fed : List ℕ → Stand → Stand
+fed s d = fedIn (length s - d .read) s d
+
+-- by what stands next
+by-next : (s : List ℕ) (P : Stand → Type 0) (d : Stand) (go : Stand → Stand) → ((xs : List ℕ) → nextOf s (d .read) [] ≡ (Unfinished, xs) → P d)
+    → ((f : Frame) (after : ℕ) (xs : List ℕ) → nextOf s (d .read) [] ≡ (Line f after, xs) → P (go (stepped d f after xs)))
+    → (q : Next × List ℕ) → nextOf s (d .read) [] ≡ q → P (onward d go q)
+by-next s P d go n y (Line f after, xs) e = y f after xs e
+by-next s P d go n y (Unfinished, xs) e = n xs e
+
+module _ (s : List ℕ) where
+  -- ---- more lines than there are bytes make no difference
+  unfinished : (at : ℕ) → length s ≤ endOf s at → nextOf s at [] ≡ (Unfinished, [])
+  unfolding nextOf
+  unfinished at h = pick-no _ _ _ (le-ltb (endOf s at) (length s) h)
+
+  past : (at : ℕ) → length s ≤ at → nextOf s at [] ≡ (Unfinished, [])
+  past at h = unfinished at (omega (arith, end-from s at))
+
+  -- a line as it is read by itself
+  plain : (at : ℕ) (f : Frame) (after : ℕ) (xs ys : List ℕ) → (Line f after, ys) ≡ nextOf s at xs → nextOf s at [] ≡ (Line f after, pick (isCall f) ys [])
+  unfolding nextOf
+  plain at f after xs ys e =
+      let w = next-found s xs ys at f after e in
+      pick-yes _ _ _ (lt-ltb (endOf s at) (length s) (w .whole))
+      ∙ rw (← w .next) (ap (λ (q : Frame × List ℕ). lined q after) (reading-of (lineAt s at) xs ys f (w .is)))
+
+  at-end : (n : ℕ) (d : Stand) → length s ≤ d .read → fedIn n s d ≡ d
+  unfolding fedIn
+  at-end zero d h = refl
+  at-end (suc n) d h =
+      either (ltb (length (d .out) - d .done) 71) (λ y. pick-yes _ _ _ y)
+      (λ k. pick-no _ _ _ k ∙ ap (onward d (fedIn n s)) (past (d .read) h))
+
+  same : (d : Stand) (go stop : Stand → Stand) → ((f : Frame) (after : ℕ) (xs : List ℕ) → nextOf s (d .read) [] ≡ (Line f after, xs) → go (stepped d f after xs) ≡ stop (stepped d f after xs))
+      → (q : Next × List ℕ) → nextOf s (d .read) [] ≡ q → onward d go q ≡ onward d stop q
+  same d go stop t (Line f after, xs) e = t f after xs e
+  same d go stop t (Unfinished, xs) e = refl
+
+  enough : (n k : ℕ) (d : Stand) → length s - d .read ≤ n → length s - d .read ≤ k → fedIn n s d ≡ fedIn k s d
+  unfolding fedIn
+  enough zero k d h l = sym (at-end k d (omega arith))
+  enough (suc n) zero d h l = at-end (suc n) d (omega arith)
+  enough (suc n) (suc k) d h l =
+      ap (λ (q : Stand). pick (ltb (length (d .out) - d .done) 71) d q)
+      (same d (fedIn n s) (fedIn k s) (λ f after xs e. let i = next-inside s [] xs (d .read) f after (sym e) in enough n k (stepped d f after xs) (omega arith) (omega arith)) (nextOf s (d .read) []) refl)
+
+  -- ---- where it stays
+  module _ (d : Stand) where
+    -- no room
+    pub fed-full : length (d .out) - d .done < 71 → d ≡ fed s d
+    unfolding fed fedIn
+    fed-full h = sym (full (length s - d .read))
+      where
+        full : (n : ℕ) → fedIn n s d ≡ d
+        full zero = refl
+        full (suc n) = pick-yes _ _ _ (lt-ltb _ _ h)
+
+    -- no bytes
+    pub fed-end : length s ≤ d .read → d ≡ fed s d
+    unfolding fed
+    fed-end h = sym (at-end (length s - d .read) d h)
+
+    -- no newline
+    pub fed-unfinished : (k : Next) (xs ys : List ℕ) → (k, ys) ≡ nextOf s (d .read) xs → k ≡ Unfinished → d ≡ fed s d
+    unfolding fed fedIn
+    fed-unfinished k xs ys e is = sym (still (length s - d .read))
+      where
+        none : nextOf s (d .read) [] ≡ (Unfinished, [])
+        none = unfinished (d .read) (next-unfinished s xs ys (d .read) (rw is at e) .0)
+
+        still : (n : ℕ) → fedIn n s d ≡ d
+        still zero = refl
+        still (suc n) = either (ltb (length (d .out) - d .done) 71) (λ y. pick-yes _ _ _ y) (λ k. pick-no _ _ _ k ∙ ap (onward d (fedIn n s)) none)
+
+    -- ---- and where it goes on
+    pub fed-line : (k : Next) (xs ys : List ℕ) → (k, ys) ≡ nextOf s (d .read) xs → (f : Frame) (after : ℕ) → k ≡ Line f after → 71 ≤ length (d .out) - d .done
+        → fed s (stepped d f after ys) ≡ fed s d
+    unfolding fed fedIn
+    fed-line k xs ys e f after is h =
+        let line : (Line f after, ys) ≡ nextOf s (d .read) xs = rw is at e in
+        let i = next-inside s xs ys (d .read) f after line in
+        let n : length s - d .read ≡ suc (length s - d .read - 1) = omega arith in
+        rw n
+        (sym (pick-no _ _ _ (le-ltb (length (d .out) - d .done) 71 h)
+        ∙ ap (onward d (fedIn (length s - d .read - 1) s)) (plain (d .read) f after xs ys line)
+        ∙ enough (length s - d .read - 1) (length s - after) (stepped d f after (pick (isCall f) ys [])) (omega arith) (omega arith)
+        ∙ ap (λ (q : Machine × Reply). fedIn (length s - after) s (stand (q .0) after (put (d .out) (d .done) (textOf (q .1)) .0) (put (d .out) (d .done) (textOf (q .1)) .1))) (numbers-idle (d .machine) f ys)))
+
+  -- ---- what is printed in all, and the machine in the end, do not depend on how far it goes
+  feeds-in : (n : ℕ) (d : Stand) (m₀ : Machine) (at₀ : ℕ) (out₀ : List ℕ) (done₀ : ℕ) → Feeds s m₀ at₀ out₀ done₀ (d .machine) (d .read) (d .out) (d .done)
+      → let q = fedIn n s d in Feeds s m₀ at₀ out₀ done₀ (q .machine) (q .read) (q .out) (q .done)
+  unfolding fedIn
+  feeds-in zero d m₀ at₀ out₀ done₀ f = f
+  feeds-in (suc n) d m₀ at₀ out₀ done₀ f =
+      chosen (λ (q : Stand). Feeds s m₀ at₀ out₀ done₀ (q .machine) (q .read) (q .out) (q .done)) (ltb (length (d .out) - d .done) 71) d _ (λ y. f)
+      (λ k. by-next s (λ (q : Stand). Feeds s m₀ at₀ out₀ done₀ (q .machine) (q .read) (q .out) (q .done)) d (fedIn n s) (λ xs e. f)
+      (λ g after xs e. feeds-in n (stepped d g after xs) m₀ at₀ out₀ done₀ (feeds-more s [] xs (d .read) (d .machine) g after (sym e) m₀ at₀ out₀ done₀ (d .out) (d .done) f (ltb-false _ _ k) _ _ _ refl))
+      (nextOf s (d .read) []) refl)
+
+  through-in : (n : ℕ) (d : Stand) → length s - d .read ≤ n → let q = fedIn n s d in Through s (q .read) (q .out) (q .done)
+  unfolding fedIn
+  through-in zero d h = through-end s (d .read) (d .out) (d .done) (omega arith)
+  through-in (suc n) d h =
+      chosen (λ (q : Stand). Through s (q .read) (q .out) (q .done)) (ltb (length (d .out) - d .done) 71) d _ (λ y. through-full s (d .read) (d .out) (d .done) (ltb-true _ _ y))
+      (λ k. by-next s (λ (q : Stand). Through s (q .read) (q .out) (q .done)) d (fedIn n s)
+      (λ xs e. through-line s (d .read) (d .out) (d .done) Unfinished [] xs (sym e) refl)
+      (λ g after xs e. let i = next-inside s [] xs (d .read) g after (sym e) in through-in n (stepped d g after xs) (omega arith))
+      (nextOf s (d .read) []) refl)
+
+-- A feed from the front prints what the whole input prints so far, and where there is room it leaves nothing but a line without its newline.
+pub fed-feeds : (s : List ℕ) (m : Machine) (out : List ℕ) (m′ : Machine) (at′ done′ : ℕ) (out′ : List ℕ) → stand m′ at′ done′ out′ ≡ fed s (stand m 0 0 out)
+    → Feeds s m 0 out 0 m′ at′ out′ done′ × Through s at′ out′ done′
+unfolding fed
+fed-feeds s m out m′ at′ done′ out′ e =
+    subst (λ (q : Stand). Feeds s m 0 out 0 (q .machine) (q .read) (q .out) (q .done) × Through s (q .read) (q .out) (q .done)) (sym e)
+    (feeds-in s (length s - 0) (stand m 0 0 out) m 0 out 0 (feeds-none s m out), through-in s (length s - 0) (stand m 0 0 out) (omega arith))
+
+-- ---- how the code's branches meet these
+module _ (s : List ℕ) (m : Machine) (at done : ℕ) (out : List ℕ) (o : Stand) (inv : fed s (stand m at done out) ≡ o) where
+  pub stops-full : length out - done < 71 → stand m at done out ≡ o
+  stops-full h = fed-full s (stand m at done out) h ∙ inv
+
+  pub stops-end : length s ≤ at → stand m at done out ≡ o
+  stops-end h = fed-end s (stand m at done out) h ∙ inv
+
+  module _ (k : Next) (xs ys : List ℕ) (e : (k, ys) ≡ nextOf s at xs) where
+    pub stops-unfinished : k ≡ Unfinished → stand m at done out ≡ o
+    stops-unfinished is = fed-unfinished s (stand m at done out) k xs ys e is ∙ inv
+
+    pub goes-on : (f : Frame) (after : ℕ) → k ≡ Line f after → 71 ≤ length out - done → (m′ : Machine) (out′ : List ℕ) (done′ : ℕ)
+        → (m′, (done′, out′)) ≡ answered m f ys out done → fed s (stand m′ after done′ out′) ≡ o
+    goes-on f after is h m′ out′ done′ a =
+        ap (λ (q : Machine × (ℕ × List ℕ)). fed s (stand (q .0) after (q .1 .0) (q .1 .1))) a ∙ fed-line s (stand m at done out) k xs ys e f after is h ∙ inv
+
+pub ruleset stops = (stops-full, stops-end, stops-unfinished)
