@@ -27,7 +27,8 @@ use Rattle.judging.specs.declared.Answer.{Answer}
 use Rattle.judging.specs.declared.Answer.the-variants.{Version, PowerVersion, Done, On, Off, Pending, Owns, Leads, Count, Silent, No}
 use Rattle.judging.specs.declared.Deed.{Deed}
 use Rattle.judging.specs.declared.Deed.the-variants.{Nothing, Move, Map, Unmap, Start, Stop, HandOver, Finish}
-use Rattle.calls.specs.Answers.{minus, written}
+use Rattle.rules.specs.Reasons.{minus}
+use Rattle.calls.specs.Answers.{written}
 use Rattle.calls.specs.Step.{State, state, sight, callerOf, judgedIn, ownersBy, savedBy, powersBy, turnsBy, listsBy, answeredIn, applied, called, Seat, startNumbers, arrivedIn, arrives}
 
 -- ---- names for a step

@@ -2,13 +2,12 @@
 use mathlib.Core.Path.{_≡_, sym, ap, _∙_}
 use mathlib.Core.Bool.{Bool, true, false, not}
 use mathlib.Core.List.{List, [], _∷_}
-use Prim.Native.Nat.{ℕ, _≤_}
-use lib.Dec.{lit≤}
+use Prim.Native.Nat.{ℕ}
 use lib.ListN.{take, drop}
 use borrow.Author.Tests.{not-true, not-false}
 use Rattle.rules.specs.Choice.{pick-yes, pick-no}
+use Rattle.rules.specs.Reasons.{minus}
 use Rattle.rules.specs.declared.Reason.{Reason}
-use Rattle.rules.specs.declared.Reason.the-variants.{Unserved, Invalid, WrongOwner, NotOpen, AlreadyOn, AlreadyPending, NoPages, Mapped, BadAddress, Full, Overlap, NotOwned, Nowhere, Malformed, NoMapping, Beyond}
 use Rattle.identifiers.specs.Identifier.{identifierOf, parts}
 use Rattle.identifiers.specs.declared.Identifier.{Identifier}
 use Rattle.identifiers.specs.declared.Parts.{Parts}
@@ -30,29 +29,10 @@ use Rattle.judging.specs.declared.Deed.{Deed}
 use Rattle.judging.specs.declared.Deed.the-variants.{Move, Map, Unmap, Start, Stop, HandOver, Finish}
 use Rattle.judging.specs.declared.Judged.{Judged}
 use Rattle.judging.specs.declared.Seen.{Seen}
-use Rattle.calls.specs.Answers.{minus, negative, bit, written}
+use Rattle.calls.specs.Answers.{negative, bit, written}
 use Rattle.calls.specs.Step.{state, seenBy, ownersBy, savedBy, powersBy, turnsBy, listsBy, answeredIn, applied, called, Seat, seat, arrivedIn}
 use Rattle.calls.specs.declared.Site.{Site}
 use Rattle.calls.specs.declared.Made.{Made}
-
--- ---- a refusal's number is small
-pub minus-at : (r : Reason) → (1 ≤ minus r) × (minus r ≤ 34)
-minus-at Unserved = (lit≤ tt, lit≤ tt)
-minus-at Invalid = (lit≤ tt, lit≤ tt)
-minus-at WrongOwner = (lit≤ tt, lit≤ tt)
-minus-at NotOpen = (lit≤ tt, lit≤ tt)
-minus-at AlreadyOn = (lit≤ tt, lit≤ tt)
-minus-at AlreadyPending = (lit≤ tt, lit≤ tt)
-minus-at NoPages = (lit≤ tt, lit≤ tt)
-minus-at Mapped = (lit≤ tt, lit≤ tt)
-minus-at BadAddress = (lit≤ tt, lit≤ tt)
-minus-at Full = (lit≤ tt, lit≤ tt)
-minus-at Overlap = (lit≤ tt, lit≤ tt)
-minus-at NotOwned = (lit≤ tt, lit≤ tt)
-minus-at Nowhere = (lit≤ tt, lit≤ tt)
-minus-at Malformed = (lit≤ tt, lit≤ tt)
-minus-at NoMapping = (lit≤ tt, lit≤ tt)
-minus-at Beyond = (lit≤ tt, lit≤ tt)
 
 -- ---- what an answer writes
 module _ (p : Parts) (a : Answer) (r r′ : List ℕ) (c w : ℕ) where

@@ -26,7 +26,7 @@ use Rattle.judging.specs.Judge.{calledBy, argsOf, found}
 use Rattle.judging.specs.Grounds.{Calls}
 use Rattle.judging.specs.declared.Answer.the-variants.{No}
 use Rattle.judging.specs.declared.Deed.the-variants.{HandOver, Finish}
-use Rattle.calls.specs.Answers.{minus}
+use Rattle.rules.specs.Reasons.{minus}
 use Rattle.calls.specs.Step.{sight, callerOf, judgedIn}
 use Rattle.calls.specs.Effects.{deedIn, answerIn, resultsIn, Receives}
 use Rattle.lines.specs.declared.Status.{Status}

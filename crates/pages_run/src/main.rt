@@ -38,31 +38,9 @@ fn answer(n: u64) {
     say(b"\n");
 }
 
-// The paper's number of a refusal, without its sign.
-fn minus_of(r: Reason) -> u64 {
-    match r {
-        Reason::Unserved => 1,
-        Reason::Invalid => 2,
-        Reason::WrongOwner => 3,
-        Reason::NotOpen => 3,
-        Reason::AlreadyOn => 4,
-        Reason::AlreadyPending => 5,
-        Reason::NoPages => 5,
-        Reason::Mapped => 6,
-        Reason::BadAddress => 9,
-        Reason::Full => 12,
-        Reason::Overlap => 1,
-        Reason::NotOwned => 13,
-        Reason::Nowhere => 14,
-        Reason::Malformed => 22,
-        Reason::NoMapping => 22,
-        Reason::Beyond => 34,
-    }
-}
-
 fn refuse(r: Reason) {
     say(b": -");
-    io::print_decimal(STDOUT_FILENO, minus_of(r));
+    io::print_decimal(STDOUT_FILENO, rules::minus_of(r));
     say(b"\n");
 }
 

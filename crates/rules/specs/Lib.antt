@@ -3,3 +3,4 @@ pub mod Tests
 pub mod Search
 pub mod Store
 pub mod Agree
+pub mod Reasons

@@ -1,7 +1,8 @@
-// What every layer shares: why a call is refused, and a byte read as a number. The definitions stand in specs/.
+// What every layer shares: why a call is refused, with the paper's number, and a byte read as a number. The definitions stand in specs/.
 ghost use mathlib.Core.Path.{_≡_};
+ghost use Rattle.rules.specs.Reasons.{minus};
 
-// Why a call is refused. The paper's number of each stands in one definition, above the layers.
+// Why a call is refused.
 pub enum Reason {
     // no handler, no such call, or not from this world
     Unserved,
@@ -35,6 +36,30 @@ pub enum Reason {
     NoMapping,
     // a mapping past the window or past the virtual end
     Beyond,
+}
+
+// The paper's number of each refusal, without its sign.
+pub fn minus_of(r: Reason) -> u64
+    ensures { λ n. ⌜ n ≡ minus r ⌝ }
+{
+    match r {
+        Reason::Unserved => 1,
+        Reason::Invalid => 2,
+        Reason::WrongOwner => 3,
+        Reason::NotOpen => 3,
+        Reason::AlreadyOn => 4,
+        Reason::AlreadyPending => 5,
+        Reason::NoPages => 5,
+        Reason::Mapped => 6,
+        Reason::BadAddress => 9,
+        Reason::Full => 12,
+        Reason::Overlap => 1,
+        Reason::NotOwned => 13,
+        Reason::Nowhere => 14,
+        Reason::Malformed => 22,
+        Reason::NoMapping => 22,
+        Reason::Beyond => 34,
+    }
 }
 
 // The number in a byte.
