@@ -47,6 +47,10 @@ module _ (t : List ℕ) (w : ℕ) (q : Question) where
   unfolding found lowest
   found-is = refl
 
+-- what a place read by the code was asked, and answered
+pub asked-so : (t : List ℕ) (w : ℕ) (q : Question) (i : ℕ) (m : Mapping) (r b : Bool) → m ≡ place t w i → r ≡ answers q m → r ≡ b → asked t w q i ≡ b
+asked-so t w q i m r b e f g = rw (← e, ← f) g
+
 -- ---- the place found, and what the list of the held mappings says
 module _ (t : List ℕ) (w : ℕ) (q : Question) (o : asksFree q ≡ false) where
   found-any : ltb (found t w q) places ≡ anyOf (asks q) (held t w)

@@ -2,8 +2,10 @@
 use mathlib.Core.Bool.{Bool, true, false}
 use lib.Dec.{eqb}
 use mathlib.Core.Path.{_≡_}
+use Prim.Native.Nat.{ℕ}
 use borrow.Author.Tests.{eq-eqb, ne-eqb}
 use Rattle.rules.specs.Choice.{pick, picked, passed}
+use Rattle.mapping.specs.Ranges.{within}
 use Rattle.mapping.specs.Mapping.{exact, onPages, holds, clashes}
 use Rattle.mapping.specs.declared.Mapping.{Mapping}
 use Rattle.mapping.specs.declared.Question.{Question}
@@ -38,3 +40,27 @@ module _ (q : Question) (m : Mapping) (r : Bool) where
   pub answers-held : (m .size ≡ 0 → ⊥) → r ≡ asks q m → r ≡ answers q m
   unfolding answers
   answers-held h e = passed _ _ _ _ (ne-eqb _ _ h) e
+
+-- the question that an arm of the code knows
+module _ (q : Question) (m : Mapping) (r : Bool) where
+  pub asks-free : q ≡ Free → r ≡ false → r ≡ asks q m
+  unfolding asks
+  asks-free e h = rw e h
+
+  pub asks-exact : (v s : ℕ) → q ≡ Exact v s → r ≡ exact v s m → r ≡ asks q m
+  unfolding asks
+  asks-exact v s e h = rw e h
+
+  pub asks-pages : (start count : ℕ) → q ≡ OnPages start count → r ≡ onPages start count m → r ≡ asks q m
+  unfolding asks
+  asks-pages start count e h = rw e h
+
+  pub asks-holds : (x : ℕ) → q ≡ Holds x → r ≡ within x (m .virt) (m .size) → r ≡ asks q m
+  unfolding asks holds
+  asks-holds x e h = rw e h
+
+  pub asks-clashes : (n : Mapping) → q ≡ Clashes n → r ≡ clashes n m → r ≡ asks q m
+  unfolding asks
+  asks-clashes n e h = rw e h
+
+pub ruleset asking = (asks-free, asks-exact, asks-pages, asks-holds, asks-clashes)

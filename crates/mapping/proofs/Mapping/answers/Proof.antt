@@ -1,6 +1,5 @@
 -- `answers` meets its promise, since a free place answers only whether it is free, and each arm asks what the question asks.
-use Rattle.mapping.specs.Mapping.{holds}
-use Rattle.mapping.specs.Question.{asks, answers-free, answers-held}
+use Rattle.mapping.specs.Question.{answers-free, answers-held, asking}
 use borrow.Author.Needs.{needs}
 use Rattle.mapping.proofs.Mapping.answers.Statement.{statement}
 use Rattle.mapping.proofs.Mapping.answers.Tie as tie
@@ -39,24 +38,19 @@ does-clash-requires : tie.Need-does-clash-requires
 does-clash-requires c κs = search needs
 
 returns-2 : tie.Need-returns-2
-unfolding asks holds
-returns-2 c = answers-held _ _ _ (search needs) (cc)
+returns-2 c = answers-held _ _ _ (search needs) (search asking)
 
 returns-3 : tie.Need-returns-3
-unfolding asks holds
-returns-3 c = answers-held _ _ _ (search needs) (cc)
+returns-3 c = answers-held _ _ _ (search needs) (search asking)
 
 returns-4 : tie.Need-returns-4
-unfolding asks holds
-returns-4 c = answers-held _ _ _ (search needs) (cc)
+returns-4 c = answers-held _ _ _ (search needs) (search asking)
 
 returns-5 : tie.Need-returns-5
-unfolding asks holds
-returns-5 c = answers-held _ _ _ (search needs) (cc)
+returns-5 c = answers-held _ _ _ (search needs) (search asking)
 
 returns-6 : tie.Need-returns-6
-unfolding asks holds
-returns-6 c = answers-held _ _ _ (search needs) (cc)
+returns-6 c = answers-held _ _ _ (search needs) (search asking)
 
 pub answers-spec : {M : Type 1} → statement M
 answers-spec =
