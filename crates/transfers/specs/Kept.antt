@@ -41,7 +41,7 @@ module _ (w : Window) (o : List ℕ) (list : List Mapping) (from start count : �
   there-granted : (k : Place) → runOf w start count ≡ k → moveTests k o list from start count ≡ Granted → Movable w o list from start count
   unfolding moveTests Clear
   there-granted (Page first) e g =
-      let c = passes (refuses (not (owned o first count from)) WrongOwner ∷ refuses (meetsRun list start count) Mapped ∷ []) Granted g in
+      let c = passes _ Granted g in
       record { first = first; lies = e; mine = not-false _ (c .0 .0); unmet = c .0 .1 .0 }
   there-granted Outside e g = let y : _≡_ {A = ℕ} 0 1 = cc in absurd (omega arith)
 
