@@ -3,15 +3,16 @@ use mathlib.Core.Path.{_≡_, refl, sym, ap, _∙_, fun-ext}
 use mathlib.Core.Bool.{Bool, true, false}
 use mathlib.Core.List.{List, []}
 use mathlib.Core.Option.{none, some}
-use Prim.Native.Nat.{ℕ, _+_, _-_, _%_, _^_, _≤_, _<_}
+use Prim.Native.Nat.{ℕ, _+_, _-_, _*_, _%_, _^_, _≤_, _<_}
 use native.Mathlib.Omega.{arith}
 use lib.Dec.{ltb, eqb}
 use lib.ListN.{length}
 use borrow.Author.Tests.{lt-ltb, le-ltb, le-leb, lt-leb, ne-eqb, ltb-true, ltb-false, eqb-true, eqb-false}
 use Rattle.rules.specs.Choice.{either, yes-or-no}
 use Rattle.rules.specs.Search.{first}
+use Rattle.pages.specs.Sizes.{pageSize}
 use Rattle.mapping.specs.Sizes.{places, worlds}
-use Rattle.mapping.specs.Mapping.{anyOf, firstOf, clash, isFull, hasExactly, meetsRun, deciding, leading, leadOf, without}
+use Rattle.mapping.specs.Mapping.{onPages, anyOf, firstOf, clash, isFull, hasExactly, meetsRun, deciding, leading, leadOf, without}
 use Rattle.mapping.specs.Entries.{Inserted, first-missing, without-missing, deciding-low}
 use Rattle.mapping.specs.Question.{asksFree, asks, answers}
 use Rattle.mapping.specs.Places.{gathered, lowest, lowest-any, lowest-none, lowest-first, lowest-free, room-left, none-left, filled-in, removed, gathered-same, gathered-none, gathered-some, gathered-most}
@@ -20,7 +21,7 @@ use Rattle.mapping.specs.Table.{blank, place, stored, stored-whole, stor
 use Rattle.mapping.specs.declared.Mapping.{Mapping}
 use Rattle.mapping.specs.declared.Lead.the-variants.{To, Nowhere}
 use Rattle.mapping.specs.declared.Question.{Question}
-use Rattle.mapping.specs.declared.Question.the-variants.{Free, Exact, OnPages, Holds, Clashes}
+use Rattle.mapping.specs.declared.Question.the-variants.{Free, Exact, OnPages, OnRange, Holds, Clashes}
 
 -- the lowest place of the world that answers the question, or 16
 pub found : List ℕ → ℕ → Question → ℕ
@@ -76,6 +77,11 @@ module _ (t : List ℕ) (w k : ℕ) where
   unfolding asksFree asks meetsRun
   meets-is a n e = rw e (found-any t w (OnPages a n) refl)
 
+  -- the same by the bytes of the run
+  pub meets-bytes : (a n s : ℕ) → k ≡ found t w (OnRange a s) → s ≡ n * pageSize → ltb k places ≡ meetsRun (held t w) a n
+  unfolding asksFree asks meetsRun onPages
+  meets-bytes a n s e f = rw (e, f) (found-any t w (OnRange a (n * pageSize)) refl)
+
   module _ (m : Mapping) (e : k ≡ found t w (Clashes m)) where
     clash-is : ltb k places ≡ clash (held t w) m
     unfolding asksFree asks clash
@@ -123,7 +129,7 @@ module _ (t : List ℕ) (w k : ℕ) where
 
 pub ruleset verdict-laws = (clash-yes, clash-no, full-yes, full-no)
 
-pub ruleset list-laws = (has-is, meets-is, leads-nowhere, leads-from, leads-to, holding-is, released-is)
+pub ruleset list-laws = (has-is, meets-is, meets-bytes, leads-nowhere, leads-from, leads-to, holding-is, released-is)
 
 -- ---- for the crates above
 

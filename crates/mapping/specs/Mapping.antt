@@ -30,9 +30,13 @@ use Rattle.mapping.specs.declared.Verdict.the-variants.{Granted, Nothing
 unfoldable pub exact : ℕ → ℕ → Mapping → Bool
 exact v s m = eqb (m .virt) v && eqb (m .size) s
 
+-- its physical range meets this one
+abbrev pub onRange : ℕ → ℕ → Mapping → Bool
+onRange start size m = meet start size (m .phys) (m .size)
+
 -- its physical range meets the run of pages
 unfoldable pub onPages : ℕ → ℕ → Mapping → Bool
-onPages start count m = meet start (count * pageSize) (m .phys) (m .size)
+onPages start count m = onRange start (count * pageSize) m
 
 -- the virtual address lies in it
 unfoldable pub holds : ℕ → Mapping → Bool

@@ -5,11 +5,11 @@ use mathlib.Core.Path.{_≡_}
 use Prim.Native.Nat.{ℕ}
 use borrow.Author.Tests.{eq-eqb, ne-eqb}
 use Rattle.rules.specs.Choice.{pick, picked, passed}
-use Rattle.mapping.specs.Ranges.{within}
-use Rattle.mapping.specs.Mapping.{exact, onPages, holds, clashes}
+use Rattle.mapping.specs.Ranges.{within, meet}
+use Rattle.mapping.specs.Mapping.{exact, onRange, onPages, holds, clashes}
 use Rattle.mapping.specs.declared.Mapping.{Mapping}
 use Rattle.mapping.specs.declared.Question.{Question}
-use Rattle.mapping.specs.declared.Question.the-variants.{Free, Exact, OnPages, Holds, Clashes}
+use Rattle.mapping.specs.declared.Question.the-variants.{Free, Exact, OnPages, OnRange, Holds, Clashes}
 
 abbrev pub isFree : Mapping → Bool
 isFree m = eqb (m .size) 0
@@ -18,6 +18,7 @@ unfoldable pub asksFree : Question → Bool
 asksFree Free = true
 asksFree (Exact v s) = false
 asksFree (OnPages start count) = false
+asksFree (OnRange start size) = false
 asksFree (Holds x) = false
 asksFree (Clashes n) = false
 
@@ -25,6 +26,7 @@ unfoldable pub asks : Question → Mapping → Bool
 asks Free m = false
 asks (Exact v s) m = exact v s m
 asks (OnPages start count) m = onPages start count m
+asks (OnRange start size) m = onRange start size m
 asks (Holds x) m = holds x m
 asks (Clashes n) m = clashes n m
 
@@ -55,6 +57,10 @@ module _ (q : Question) (m : Mapping) (r : Bool) where
   unfolding asks
   asks-pages start count e h = rw e h
 
+  pub asks-range : (start size : ℕ) → q ≡ OnRange start size → r ≡ meet start size (m .phys) (m .size) → r ≡ asks q m
+  unfolding asks
+  asks-range start size e h = rw e h
+
   pub asks-holds : (x : ℕ) → q ≡ Holds x → r ≡ within x (m .virt) (m .size) → r ≡ asks q m
   unfolding asks holds
   asks-holds x e h = rw e h
@@ -63,4 +69,4 @@ module _ (q : Question) (m : Mapping) (r : Bool) where
   unfolding asks
   asks-clashes n e h = rw e h
 
-pub ruleset asking = (asks-free, asks-exact, asks-pages, asks-holds, asks-clashes)
+pub ruleset asking = (asks-free, asks-exact, asks-pages, asks-range, asks-holds, asks-clashes)

@@ -13,6 +13,9 @@ ghost use Rattle.mapping.specs.Question.{asksFree, answers};
 // The bytes of a page.
 const PAGE_SIZE: u64 = 4096;
 
+// The bytes of fewer pages than this can be counted in 64 bits.
+const COUNTABLE: u64 = 0x10000000000000;
+
 // No virtual range ends above this, 2^32.
 const VIRTUAL_LIMIT: u64 = 0x100000000;
 
@@ -57,6 +60,8 @@ enum Question {
     Exact { virt: u64, size: u64 },
     // whether it is held, and its physical range meets a run of pages
     OnPages { start: u64, count: u64 },
+    // whether it is held, and its physical range meets this one
+    OnRange { start: u64, size: u64 },
     // whether it is held, and this virtual address lies in it
     Holds(u64),
     // whether it is held, and meets this mapping
@@ -121,6 +126,7 @@ impl Question {
             Question::Free => true,
             Question::Exact { virt: _, size: _ } => false,
             Question::OnPages { start: _, count: _ } => false,
+            Question::OnRange { start: _, size: _ } => false,
             Question::Holds(_) => false,
             Question::Clashes(_) => false,
         }
@@ -216,6 +222,7 @@ impl Mapping {
             Question::Free => false,
             Question::Exact { virt, size } => self.is_exact(virt, size),
             Question::OnPages { start, count } => self.is_on_run(start, count),
+            Question::OnRange { start, size } => do_meet(start, size, self.phys, self.size),
             Question::Holds(x) => is_within(x, self.virt, self.size),
             Question::Clashes(m) => m.does_clash(self),
         }
@@ -330,6 +337,10 @@ pub fn release(lists: &mut Lists, world: u64, virt: u64, size: u64)
 pub fn meets_run(lists: &Lists, world: u64, start: u64, count: u64) -> bool
     ensures { λ r. ⌜ r ≡ meetsRun (held (now (lists .entry)) world) start count ⌝ }
 {
+    if count < COUNTABLE {
+        let size = count * PAGE_SIZE;
+        return find(lists, world, Question::OnRange { start, size }) < PLACES;
+    }
     find(lists, world, Question::OnPages { start, count }) < PLACES
 }
 

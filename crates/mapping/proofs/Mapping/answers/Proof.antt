@@ -28,11 +28,17 @@ is-on-run-requires c κs = search needs
 enum-known-q-3 : tie.Need-enum-known-q-3
 enum-known-q-3 c = search needs
 
-is-within-requires : tie.Need-is-within-requires
-is-within-requires c κs = search needs
+do-meet-requires : tie.Need-do-meet-requires
+do-meet-requires c κs = search needs
 
 enum-known-q-4 : tie.Need-enum-known-q-4
 enum-known-q-4 c = search needs
+
+is-within-requires : tie.Need-is-within-requires
+is-within-requires c κs = search needs
+
+enum-known-q-5 : tie.Need-enum-known-q-5
+enum-known-q-5 c = search needs
 
 does-clash-requires : tie.Need-does-clash-requires
 does-clash-requires c κs = search needs
@@ -52,6 +58,9 @@ returns-5 c = answers-held _ _ _ (search needs) (search asking)
 returns-6 : tie.Need-returns-6
 returns-6 c = answers-held _ _ _ (search needs) (search asking)
 
+returns-7 : tie.Need-returns-7
+returns-7 c = answers-held _ _ _ (search needs) (search asking)
+
 pub answers-spec : {M : Type 1} → statement M
 answers-spec =
     tie.close
@@ -64,11 +73,14 @@ answers-spec =
     enum-known-q-2
     is-on-run-requires
     enum-known-q-3
-    is-within-requires
+    do-meet-requires
     enum-known-q-4
+    is-within-requires
+    enum-known-q-5
     does-clash-requires
     returns-2
     returns-3
     returns-4
     returns-5
-    returns-6)
+    returns-6
+    returns-7)
