@@ -7,7 +7,7 @@ use lib.Dec.{ltb, eqb}
 use lib.ListN.{length}
 use native.Mathlib.Omega.{arith}
 use borrow.Author.Tests.{lt-ltb, le-ltb, eq-eqb, ne-eqb, eqb-true}
-use Rattle.rules.specs.Choice.{pick, pick-yes, pick-no, picked, passed, by, either, yes-or-no, both-true, left-false, right-false, first-or, second-or, neither, not-true, not-false}
+use Rattle.rules.specs.Choice.{pick, pick-yes, pick-no, picked, passed, by, either, yes-or-no, both-true, left-true, left-false, right-false, first-or, second-or, neither, not-true, not-false}
 use Rattle.lines.specs.Hex.{allDigits, number}
 use Rattle.lines.specs.declared.Status.{Status}
 use Rattle.lines.specs.declared.Status.the-variants.{Accepted, NoHex, Unknown, Misplaced, OutOfRange, Clash}
@@ -150,11 +150,21 @@ module _ (l : List ℕ) where
   no-call-pick : (b : Bool) (f g : Frame) → isCall f ≡ false → isCall g ≡ false → isCall (pick b f g) ≡ false
   no-call-pick b f g p q = by (λ (t : Bool). isCall (pick t f g) ≡ false) b (λ e. rw (pick-yes true f g) p) (λ e. rw (pick-no false f g) q)
 
-  pub no-call : (length l ≡ 132 → ⊥) → isCall (frameOf l) ≡ false
+  no-call-start : starts l 0x20 66 ≡ false → isCall (frameOf l) ≡ false
   unfolding frameOf known
-  no-call n =
-      let e : starts l 0x20 66 ≡ false = other l 0x20 66 (λ y. n) in
+  no-call-start e =
       no-call-pick _ _ _ refl (no-call-pick _ _ _ refl (no-call-pick _ _ _ refl (no-call-pick _ _ _ refl (rw (e, pick-no false) (no-call-pick _ _ _ refl refl)))))
+
+  pub no-call : (length l ≡ 132 → ⊥) → isCall (frameOf l) ≡ false
+  no-call n = no-call-start (other l 0x20 66 (λ y. n))
+
+  -- a call is a line of digits that begins with 20
+  module _ (c : isCall (frameOf l) ≡ true) where
+    pub call-digits : allDigits l ≡ true
+    call-digits = either (allDigits l) (λ y. y) (λ n. absurd (yes-or-no (isCall (frameOf l)) c (ap isCall (sym (no-digits l n)))))
+
+    pub call-first : number l 0 1 ≡ 0x20
+    call-first = either (starts l 0x20 66) (λ y. eqb-true _ _ (left-true _ _ y)) (λ n. absurd (yes-or-no (isCall (frameOf l)) c (no-call-start n)))
 
 module _ (l xs : List ℕ) where
   -- a frame that is no call leaves the numbers as they stood
@@ -169,6 +179,9 @@ module _ (l xs : List ℕ) where
   module _ (h : length l ≡ 132) where
     whole-line : (r : Frame) → allDigits l ≡ true → r ≡ known l → r ≡ frameOf l
     whole-line r d e = hex-line l r (λ z. omega arith) (omega arith) (omega arith) d e
+
+    pub call-found : allDigits l ≡ true → number l 0 1 ≡ 0x20 → isCall (frameOf l) ≡ true
+    call-found d e = ap isCall (sym (whole-line _ d (call-frame l (number l 0 1) refl (number l 1 1) h e refl)))
 
     pub signs-parsed : allDigits l ≡ false → (Refused NoHex, xs) ≡ parsed l xs
     signs-parsed d = stays _ refl (no-digits l d)
@@ -191,10 +204,6 @@ module _ (l xs ys : List ℕ) (f : Frame) (p : (f, ys) ≡ parsed l xs) where
   pub parsed-call : isCall f ≡ true → ys ≡ numbersOf l
   unfolding parsed
   parsed-call e = ap (λ (q : Frame × List ℕ). q .1) p ∙ rw (← parsed-frame, e, pick-yes true)
-
-  pub parsed-other : isCall f ≡ false → ys ≡ xs
-  unfolding parsed
-  parsed-other e = ap (λ (q : Frame × List ℕ). q .1) p ∙ rw (← parsed-frame, e, pick-no false)
 
   -- a call is a line of digits
   pub parsed-digits : isCall f ≡ true → allDigits l ≡ true

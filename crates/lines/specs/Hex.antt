@@ -49,26 +49,26 @@ module _ (d : ℕ) where
   sign-high h = passed _ _ _ _ (le-ltb d 10 h) refl
 
 module _ (b : ℕ) where
-  digit-below : b < 48 → digitOf b ≡ 16
+  pub digit-below : b < 48 → digitOf b ≡ 16
   unfolding digitOf pick
   digit-below h = simp (lt-ltb b 48 h)
 
-  digit-low : 48 ≤ b → b < 58 → digitOf b ≡ b - 48
+  pub digit-low : 48 ≤ b → b < 58 → digitOf b ≡ b - 48
   unfolding digitOf pick
   digit-low g h = simp (le-ltb b 48 g, lt-ltb b 58 h)
 
-  digit-between : 58 ≤ b → b < 97 → digitOf b ≡ 16
+  pub digit-between : 58 ≤ b → b < 97 → digitOf b ≡ 16
   unfolding digitOf pick
   digit-between g h = let k : 48 ≤ b = omega arith in simp (le-ltb b 48 k, le-ltb b 58 g, lt-ltb b 97 h)
 
-  digit-high : 97 ≤ b → b < 103 → digitOf b ≡ b - 87
+  pub digit-high : 97 ≤ b → b < 103 → digitOf b ≡ b - 87
   unfolding digitOf pick
   digit-high g h =
       let k : 48 ≤ b = omega arith in
       let m : 58 ≤ b = omega arith in
       simp (le-ltb b 48 k, le-ltb b 58 m, le-ltb b 97 g, lt-ltb b 103 h)
 
-  digit-above : 103 ≤ b → digitOf b ≡ 16
+  pub digit-above : 103 ≤ b → digitOf b ≡ 16
   unfolding digitOf pick
   digit-above g =
       let k : 48 ≤ b = omega arith in

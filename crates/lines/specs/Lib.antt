@@ -4,6 +4,8 @@ pub mod Lines
 pub mod Input
 pub mod Carry
 pub mod Marks
+pub mod Rows
+pub mod Packed
 pub mod Signs
 pub mod Whole
 pub mod Cases

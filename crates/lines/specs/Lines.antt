@@ -13,8 +13,10 @@ use borrow.Author.Tests.{lt-ltb, le-ltb, eq-eqb, ne-eqb, eqb-true, eqb-false, lt
 use Rattle.rules.specs.Choice.{pick, picked, passed, either, yes-or-no}
 use Rattle.rules.specs.Search.{all-at, first, first-goes, first-stops, first-ends, first-is, Firstly}
 use Rattle.lines.specs.Hex.{digitOf, digitAt, allDigits}
-use Rattle.lines.specs.Frame.{isCall, parsed, parsed-digits, parsed-other}
+use Rattle.lines.specs.Frame.{isCall, parsed, parsed-digits}
+use Rattle.lines.specs.Whole.{quick, quick-call, quick-same}
 use Rattle.lines.specs.declared.Frame.{Frame}
+use Rattle.lines.specs.declared.Frame.the-variants.{Call}
 use Rattle.lines.specs.declared.Next.{Next}
 use Rattle.lines.specs.declared.Next.the-variants.{Line, Unfinished}
 
@@ -141,8 +143,16 @@ module _ (s xs ys : List ℕ) (at e : ℕ) (f : Frame) (n : e ≡ at + 132) (p :
       (end-is s at e (omega arith) h g (λ k a b z. digits-no-newline (part s at e) (k - at) d (omega arith) (part-at s at e k a b ∙ z)))
       h p
 
-  pub next-scan : (q : Next × List ℕ) → isCall f ≡ false → q ≡ nextOf s at ys → q ≡ nextOf s at xs
-  next-scan q c g = g ∙ rw (parsed-other (part s at e) xs ys f p c)
+-- the same by what was read at once
+module _ (s xs ys : List ℕ) (at e k : ℕ) (n : e ≡ at + 132) (h : e < length s) (q : (k, ys) ≡ quick (part s at e) xs) where
+  sized : length (part s at e) ≡ 132
+  sized = part-length s at e (omega arith) (omega arith) ∙ omega arith
+
+  pub next-quick : getD s e 0 ≡ 10 → k < 256 → (Line (Call k) (e + 1), ys) ≡ nextOf s at xs
+  next-quick g c = next-call s xs ys at e (Call k) n (quick-call (part s at e) xs ys k sized q c) h g refl
+
+  pub next-slow : (r : Next × List ℕ) → 256 ≤ k → r ≡ nextOf s at ys → r ≡ nextOf s at xs
+  next-slow r c g = g ∙ ap (nextOf s at) (quick-same (part s at e) xs ys k sized q c)
 
 -- ---- the lines of an input, one after the other
 -- no newline in it

@@ -1,19 +1,25 @@
 // Lines of hexadecimal digits, and the frames in them: the part of the frame program that needs no state.
 ghost use mathlib.Core.Path.{_≡_};
-ghost use mathlib.Core.Bool.{true};
+ghost use mathlib.Core.Bool.{true, _&&_};
 ghost use Prim.Native.Nat.{_+_, _*_, _<_, _≤_, min};
+ghost use lib.Dec.{ltb};
 ghost use lib.ListN.{length};
-ghost use Rattle.lines.specs.Hex.{signOf, allDigits, number};
-ghost use Rattle.lines.specs.Frame.{isCall, frameOf, known, parsed};
+ghost use Rattle.lines.specs.Hex.{allDigits, number};
+ghost use Rattle.lines.specs.Frame.{frameOf, known, parsed};
 ghost use Rattle.lines.specs.Lines.{endOf, nextOf};
 ghost use Rattle.lines.specs.Carry.{carried};
-ghost use Rattle.lines.specs.Marks.{Marks, markOf, four, wordAt};
-ghost use Rattle.lines.specs.Whole.{Words};
+ghost use Rattle.lines.specs.Marks.{markOf};
+ghost use Rattle.lines.specs.Rows.{Row};
+ghost use Rattle.lines.specs.Packed.{Small, pairAt, pairOf, byteAt, packed, lowTwo, lowFour, lowFirst, turnTwo, turnFour, turn, turnAt, wordAt, wordOf};
+ghost use Rattle.lines.specs.Whole.{Digits, quick};
 
 // The most digits of a line: a call's.
 const MOST: usize = 132;
 
 const NEWLINE: u8 = 10;
+
+// What stands for the core of a line that is no call: more than a byte.
+const NO_CALL: u64 = 256;
 
 // How a frame is answered. The paper's byte of each stands in one definition.
 pub enum Status {
@@ -68,120 +74,204 @@ pub enum Next {
     Unfinished,
 }
 
-// Sixteen signs: their number, where all are digits.
-enum Word {
-    Number(u64),
-    NoNumber,
-}
-
-// The sign of a digit.
-fn sign(d: usize) -> usize
-    requires { ⌜ d < 16 ⌝ }
-    ensures { λ r. ⌜ (r ≡ signOf d) × (r < 256) ⌝ }
+// A digit's value, and more than 15 for any other byte.
+fn mark(b: u8) -> u8
+    ensures { λ r. ⌜ r ≡ markOf b ⌝ }
 {
-    if d < 10 {
-        return 48 + d;
+    if b < 58 {
+        return std::num::wrapping_sub_u8(b, 48);
     }
-    87 + d
+    if b < 97 {
+        return 255;
+    }
+    b - 87
 }
 
-// The mark of each byte: a digit's value, and more than four digits come to for any other.
-fn marks() -> [u32; 256]
-    ensures { λ r. ⌜ Marks r ⌝ }
+// The larger of two marks: a digit's where both are.
+fn larger(a: u8, b: u8) -> u8
+    ensures { λ r. ⌜ ltb r 16 ≡ (ltb a 16 && ltb b 16) ⌝ }
 {
-    let mut t = [65536u32; 256];
+    if a < b {
+        return b;
+    }
+    a
+}
+
+// The marks of the signs from the fifth on, and the largest of them.
+fn digits(line: &[u8], ds: &mut [u8]) -> u8
+    requires { ⌜ (length (now line) ≡ 132) × (length (now ds) ≡ 128) ⌝ }
+    ensures { λ r. ⌜ Digits (now (line .entry)) r (now (ds .exit)) ⌝ }
+{
+    let mut most: u8 = 0;
     let mut i: usize = 0;
-    while i < 16 {
-        t[sign(i)] = i as u32;
+    while i < 128 {
+        let d = mark(line[4 + i]);
+        ds[i] = d;
+        most = larger(most, d);
         i += 1;
     }
-    t
+    most
 }
 
-fn mark(t: &[u32; 256], b: u8) -> u64
-    requires { ⌜ Marks (now t) ⌝ }
-    ensures { λ r. ⌜ (r ≡ markOf b) × (r ≤ 65536) ⌝ }
+// Two digits side by side, the first in the low byte.
+fn pair(a: u8, b: u8) -> u16
+    ensures { λ r. ⌜ r ≡ pairOf a b ⌝ }
 {
-    t[b as usize] as u64
+    a as u16 + b as u16 * 256
 }
 
-// Two bytes of a line, and more than 65535 where one of the four signs is no digit.
-fn quad(t: &[u32; 256], s: &[u8], at: usize) -> u64
-    requires { ⌜ Marks (now t) × (at + 4 ≤ length (now s)) ⌝ }
-    ensures { λ r. ⌜ (r ≡ four (now (s .entry)) at) × (r ≤ 286326784) ⌝ }
+fn pairs(ds: &[u8], ws: &mut [u16])
+    requires { ⌜ (length (now ds) ≡ 128) × (length (now ws) ≡ 64) ⌝ }
+    ensures { λ _. ⌜ Row (pairAt (now (ds .entry))) 64 (now (ws .exit)) ⌝ }
 {
-    (mark(t, s[at]) * 16 + mark(t, s[at + 1])) * 256
-        + (mark(t, s[at + 2]) * 16 + mark(t, s[at + 3]))
+    let mut i: usize = 0;
+    while i < 64 {
+        ws[i] = pair(ds[i * 2], ds[i * 2 + 1]);
+        i += 1;
+    }
 }
 
-// Sixteen signs, four by one test.
-fn word_at(t: &[u32; 256], s: &[u8], at: usize) -> Word
-    requires { ⌜ Marks (now t) × (at + 16 ≤ length (now s)) ⌝ }
-    ensures { λ r. ⌜ r ≡ wordAt (now (s .entry)) at ⌝ }
+// The byte of two digits, the first the higher.
+fn byte(w: u16) -> u8
+    ensures { λ r. ⌜ r ≡ packed w ⌝ }
 {
-    let a = quad(t, s, at);
-    if 65535 < a {
-        return Word::NoNumber;
-    }
-    let b = quad(t, s, at + 4);
-    if 65535 < b {
-        return Word::NoNumber;
-    }
-    let c = quad(t, s, at + 8);
-    if 65535 < c {
-        return Word::NoNumber;
-    }
-    let d = quad(t, s, at + 12);
-    if 65535 < d {
-        return Word::NoNumber;
-    }
-    Word::Number(((a * 65536 + b) * 65536 + c) * 65536 + d)
+    (w % 16 * 16 + w / 256 % 16) as u8
 }
 
-// The eight numbers of a line of 132 signs, and whether the signs from the fifth on are digits.
-fn words(t: &[u32; 256], line: &[u8], ys: &mut [u64]) -> bool
-    requires { ⌜ Marks (now t) × (length (now line) ≡ 132) × (length (now ys) ≡ 8) ⌝ }
-    ensures { λ r. ⌜ Words (now (line .entry)) r (now (ys .exit)) ⌝ }
+fn bytes(ws: &[u16], bs: &mut [u8])
+    requires { ⌜ (length (now ws) ≡ 64) × (length (now bs) ≡ 64) ⌝ }
+    ensures { λ _. ⌜ Row (byteAt (now (ws .entry))) 64 (now (bs .exit)) ⌝ }
+{
+    let mut i: usize = 0;
+    while i < 64 {
+        bs[i] = byte(ws[i]);
+        i += 1;
+    }
+}
+
+fn octet(b: u8) -> u64
+    ensures { λ r. ⌜ (r ≡ b) × (r < 256) ⌝ }
+{
+    b as u64
+}
+
+// Two bytes as a number, the lowest first.
+fn low_two(bs: &[u8], at: usize) -> u64
+    requires { ⌜ at + 2 ≤ length (now bs) ⌝ }
+    ensures { λ r. ⌜ (r ≡ lowTwo (now (bs .entry)) at) × (r < 0x10000) ⌝ }
+{
+    octet(bs[at]) + octet(bs[at + 1]) * 0x100
+}
+
+// Four of them.
+fn low_four(bs: &[u8], at: usize) -> u64
+    requires { ⌜ at + 4 ≤ length (now bs) ⌝ }
+    ensures { λ r. ⌜ (r ≡ lowFour (now (bs .entry)) at) × (r < 0x100000000) ⌝ }
+{
+    low_two(bs, at) + low_two(bs, at + 2) * 0x10000
+}
+
+// Eight of them.
+fn low_first(bs: &[u8], at: usize) -> u64
+    requires { ⌜ at + 8 ≤ length (now bs) ⌝ }
+    ensures { λ r. ⌜ r ≡ lowFirst (now (bs .entry)) at ⌝ }
+{
+    low_four(bs, at) + low_four(bs, at + 4) * 0x100000000
+}
+
+fn lows(bs: &[u8], vs: &mut [u64])
+    requires { ⌜ (length (now bs) ≡ 64) × (length (now vs) ≡ 8) ⌝ }
+    ensures { λ _. ⌜ Row (wordAt (now (bs .entry))) 8 (now (vs .exit)) ⌝ }
 {
     let mut i: usize = 0;
     while i < 8 {
-        let Word::Number(x) = word_at(t, line, 4 + i * 16) else {
-            return false;
-        };
-        ys[i] = x;
+        vs[i] = low_first(bs, i * 8);
         i += 1;
     }
-    true
 }
 
-// A line of 132 signs: a call, or refused.
-fn call_of(t: &[u32; 256], line: &[u8], xs: &mut [u64; 8]) -> Frame
-    requires { ⌜ Marks (now t) × (length (now line) ≡ 132) ⌝ }
-    ensures { λ r. ⌜ (r, now (xs .exit)) ≡ parsed (now (line .entry)) (now (xs .entry)) ⌝ }
+// Two bytes in the other order.
+fn turned_two(v: u64) -> u64
+    requires { ⌜ v < 0x10000 ⌝ }
+    ensures { λ r. ⌜ (r ≡ turnTwo v) × (r < 0x10000) ⌝ }
 {
-    let head = quad(t, line, 0);
-    if 65535 < head {
-        return Frame::Refused(Status::NoHex);
+    v % 256 * 0x100 + v / 0x100
+}
+
+// Four of them.
+fn turned_four(v: u64) -> u64
+    requires { ⌜ v < 0x100000000 ⌝ }
+    ensures { λ r. ⌜ (r ≡ turnFour v) × (r < 0x100000000) ⌝ }
+{
+    turned_two(v % 0x10000) * 0x10000 + turned_two(v / 0x10000)
+}
+
+// Eight of them.
+fn turned(v: u64) -> u64
+    ensures { λ r. ⌜ r ≡ turn v ⌝ }
+{
+    turned_four(v % 0x100000000) * 0x100000000 + turned_four(v / 0x100000000)
+}
+
+fn turns(vs: &[u64], ys: &mut [u64])
+    requires { ⌜ (length (now vs) ≡ 8) × (length (now ys) ≡ 8) ⌝ }
+    ensures { λ _. ⌜ Row (turnAt (now (vs .entry))) 8 (now (ys .exit)) ⌝ }
+{
+    let mut i: usize = 0;
+    while i < 8 {
+        ys[i] = turned(vs[i]);
+        i += 1;
+    }
+}
+
+// The eight numbers of 128 digits. Each step treats all of them alike, so that the compiler takes many at a time.
+fn numbers(ds: &[u8], ys: &mut [u64])
+    requires { ⌜ (length (now ds) ≡ 128) × Small (now ds) × (length (now ys) ≡ 8) ⌝ }
+    ensures { λ _. ⌜ Row (wordOf (now (ds .entry))) 8 (now (ys .exit)) ⌝ }
+{
+    let mut ws = [0u16; 64];
+    pairs(ds, &mut ws);
+    let mut bs = [0u8; 64];
+    bytes(&ws, &mut bs);
+    let mut vs = [0u64; 8];
+    lows(&bs, &mut vs);
+    turns(&vs, ys);
+}
+
+// The core of a call, a line of 132 signs, and its numbers; 256 where the line is no call, and the numbers are left.
+fn quick(line: &[u8], xs: &mut [u64; 8]) -> u64
+    requires { ⌜ length (now line) ≡ 132 ⌝ }
+    ensures { λ r. ⌜ (r, now (xs .exit)) ≡ quick (now (line .entry)) (now (xs .entry)) ⌝ }
+{
+    if line[0] != b'2' {
+        return NO_CALL;
+    }
+    if line[1] != b'0' {
+        return NO_CALL;
+    }
+    let high = mark(line[2]);
+    let low = mark(line[3]);
+    if 15 < larger(high, low) {
+        return NO_CALL;
+    }
+    let mut ds = [0u8; 128];
+    let most = digits(line, &mut ds);
+    if 15 < most {
+        return NO_CALL;
     }
     let mut ys = [0u64; 8];
-    if words(t, line, &mut ys) {
-        if head / 256 == 0x20 {
-            *xs = ys;
-            return Frame::Call { core: head % 256 };
-        }
-        return Frame::Refused(Status::Unknown);
-    }
-    Frame::Refused(Status::NoHex)
+    numbers(&ds, &mut ys);
+    *xs = ys;
+    rules::wide(high) * 16 + rules::wide(low)
 }
 
 // Whether each sign of a line is a digit.
-fn all_digits(t: &[u32; 256], line: &[u8]) -> bool
-    requires { ⌜ Marks (now t) ⌝ }
+fn all_digits(line: &[u8]) -> bool
     ensures { λ r. ⌜ r ≡ allDigits (now (line .entry)) ⌝ }
 {
     let mut i: usize = 0;
     while i < line.len() {
-        if 15 < mark(t, line[i]) {
+        if 15 < mark(line[i]) {
             return false;
         }
         i += 1;
@@ -190,8 +280,8 @@ fn all_digits(t: &[u32; 256], line: &[u8]) -> bool
 }
 
 // The number in n bytes of a line of digits, from byte k on.
-fn number(t: &[u32; 256], line: &[u8], k: usize, n: usize) -> u64
-    requires { ⌜ Marks (now t) × (allDigits (now line) ≡ true) × (k * 2 + n * 2 ≤ length (now line)) × (n ≤ 8) ⌝ }
+fn number(line: &[u8], k: usize, n: usize) -> u64
+    requires { ⌜ (allDigits (now line) ≡ true) × (k * 2 + n * 2 ≤ length (now line)) × (n ≤ 8) ⌝ }
     ensures { λ r. ⌜ r ≡ number (now (line .entry)) k n ⌝ }
 {
     let at = k * 2;
@@ -199,36 +289,36 @@ fn number(t: &[u32; 256], line: &[u8], k: usize, n: usize) -> u64
     let mut x: u64 = 0;
     let mut i: usize = 0;
     while i < size {
-        x = x * 16 + mark(t, line[at + i]);
+        x = x * 16 + rules::wide(mark(line[at + i]));
         i += 1;
     }
     x
 }
 
 // 11: the window and the cores, eight bytes, two and one.
-fn site(t: &[u32; 256], line: &[u8]) -> Frame
-    requires { ⌜ Marks (now t) × (allDigits (now line) ≡ true) × (length (now line) ≡ 24) ⌝ }
+fn site(line: &[u8]) -> Frame
+    requires { ⌜ (allDigits (now line) ≡ true) × (length (now line) ≡ 24) ⌝ }
     ensures { λ r. ⌜ r ≡ known (now (line .entry)) ⌝ }
 {
-    if number(t, line, 0, 1) == 0x11 {
-        let base = number(t, line, 1, 8);
-        let pages = number(t, line, 9, 2);
-        let cores = number(t, line, 11, 1);
+    if number(line, 0, 1) == 0x11 {
+        let base = number(line, 1, 8);
+        let pages = number(line, 9, 2);
+        let cores = number(line, 11, 1);
         return Frame::Site { base, pages, cores };
     }
     Frame::Refused(Status::Unknown)
 }
 
 // 10: four bytes.
-fn entry(t: &[u32; 256], line: &[u8]) -> Frame
-    requires { ⌜ Marks (now t) × (allDigits (now line) ≡ true) × (length (now line) ≡ 10) ⌝ }
+fn entry(line: &[u8]) -> Frame
+    requires { ⌜ (allDigits (now line) ≡ true) × (length (now line) ≡ 10) ⌝ }
     ensures { λ r. ⌜ r ≡ known (now (line .entry)) ⌝ }
 {
-    if number(t, line, 0, 1) == 0x10 {
-        let first = number(t, line, 1, 1);
-        let last = number(t, line, 2, 1);
-        let kind = number(t, line, 3, 1);
-        let handler = number(t, line, 4, 1);
+    if number(line, 0, 1) == 0x10 {
+        let first = number(line, 1, 1);
+        let last = number(line, 2, 1);
+        let kind = number(line, 3, 1);
+        let handler = number(line, 4, 1);
         return Frame::Entry {
             first,
             last,
@@ -240,14 +330,14 @@ fn entry(t: &[u32; 256], line: &[u8]) -> Frame
 }
 
 // 12: the first page and the count, two bytes each, and the owner.
-fn name(t: &[u32; 256], line: &[u8]) -> Frame
-    requires { ⌜ Marks (now t) × (allDigits (now line) ≡ true) × (length (now line) ≡ 12) ⌝ }
+fn name(line: &[u8]) -> Frame
+    requires { ⌜ (allDigits (now line) ≡ true) × (length (now line) ≡ 12) ⌝ }
     ensures { λ r. ⌜ r ≡ known (now (line .entry)) ⌝ }
 {
-    if number(t, line, 0, 1) == 0x12 {
-        let first = number(t, line, 1, 2);
-        let count = number(t, line, 3, 2);
-        let owner = number(t, line, 5, 1);
+    if number(line, 0, 1) == 0x12 {
+        let first = number(line, 1, 2);
+        let count = number(line, 3, 2);
+        let owner = number(line, 5, 1);
         return Frame::Name {
             first,
             count,
@@ -258,35 +348,35 @@ fn name(t: &[u32; 256], line: &[u8]) -> Frame
 }
 
 // 21: the core.
-fn arrival(t: &[u32; 256], line: &[u8]) -> Frame
-    requires { ⌜ Marks (now t) × (allDigits (now line) ≡ true) × (length (now line) ≡ 4) ⌝ }
+fn arrival(line: &[u8]) -> Frame
+    requires { ⌜ (allDigits (now line) ≡ true) × (length (now line) ≡ 4) ⌝ }
     ensures { λ r. ⌜ r ≡ known (now (line .entry)) ⌝ }
 {
-    if number(t, line, 0, 1) == 0x21 {
-        let core = number(t, line, 1, 1);
+    if number(line, 0, 1) == 0x21 {
+        let core = number(line, 1, 1);
         return Frame::Arrival { core };
     }
     Frame::Refused(Status::Unknown)
 }
 
 // A line of digits that is no call, by its length and its first byte.
-fn known_frame(t: &[u32; 256], line: &[u8]) -> Frame
-    requires { ⌜ Marks (now t) × (allDigits (now line) ≡ true) × (length (now line) ≡ 132 → ⊥) ⌝ }
+fn known_frame(line: &[u8]) -> Frame
+    requires { ⌜ (allDigits (now line) ≡ true) × (length (now line) ≡ 132 → ⊥) ⌝ }
     ensures { λ r. ⌜ r ≡ known (now (line .entry)) ⌝ }
 {
     let n = line.len();
     match n {
-        24 => site(t, line),
-        10 => entry(t, line),
-        12 => name(t, line),
-        4 => arrival(t, line),
+        24 => site(line),
+        10 => entry(line),
+        12 => name(line),
+        4 => arrival(line),
         _ => Frame::Refused(Status::Unknown),
     }
 }
 
 // A line of another length than a call's.
-fn short(t: &[u32; 256], line: &[u8]) -> Frame
-    requires { ⌜ Marks (now t) × (length (now line) ≡ 132 → ⊥) ⌝ }
+fn short(line: &[u8]) -> Frame
+    requires { ⌜ (length (now line) ≡ 132 → ⊥) ⌝ }
     ensures { λ r. ⌜ r ≡ frameOf (now (line .entry)) ⌝ }
 {
     let n = line.len();
@@ -300,8 +390,8 @@ fn short(t: &[u32; 256], line: &[u8]) -> Frame
     if MOST < n {
         return Frame::Refused(Status::NoHex);
     }
-    if all_digits(t, line) {
-        return known_frame(t, line);
+    if all_digits(line) {
+        return known_frame(line);
     }
     Frame::Refused(Status::NoHex)
 }
@@ -310,11 +400,17 @@ fn short(t: &[u32; 256], line: &[u8]) -> Frame
 pub fn parse(line: &[u8], xs: &mut [u64; 8]) -> Frame
     ensures { λ r. ⌜ (r, now (xs .exit)) ≡ parsed (now (line .entry)) (now (xs .entry)) ⌝ }
 {
-    let t = marks();
     if line.len() == MOST {
-        return call_of(&t, line, xs);
+        let core = quick(line, xs);
+        if core < NO_CALL {
+            return Frame::Call { core };
+        }
+        if all_digits(line) {
+            return Frame::Refused(Status::Unknown);
+        }
+        return Frame::Refused(Status::NoHex);
     }
-    short(&t, line)
+    short(line)
 }
 
 // Where the line at a place ends: at the first newline, or where the bytes end; a place past them is its own end.
@@ -346,32 +442,6 @@ fn scan(s: &[u8], at: usize, xs: &mut [u64; 8]) -> Next
     Next::Unfinished
 }
 
-fn is_call(f: Frame) -> bool
-    ensures { λ r. ⌜ r ≡ isCall f ⌝ }
-{
-    match f {
-        Frame::Site {
-            base: _,
-            pages: _,
-            cores: _,
-        } => false,
-        Frame::Entry {
-            first: _,
-            last: _,
-            kind: _,
-            handler: _,
-        } => false,
-        Frame::Name {
-            first: _,
-            count: _,
-            owner: _,
-        } => false,
-        Frame::Call { core: _ } => true,
-        Frame::Arrival { core: _ } => false,
-        Frame::Refused(_) => false,
-    }
-}
-
 // The line at a place. A call is known without looking for its newline: there is none among 132 digits.
 pub fn next_line(s: &[u8], at: usize, xs: &mut [u64; 8]) -> Next
     ensures { λ r. ⌜ (r, now (xs .exit)) ≡ nextOf (now (s .entry)) at (now (xs .entry)) ⌝ }
@@ -384,10 +454,10 @@ pub fn next_line(s: &[u8], at: usize, xs: &mut [u64; 8]) -> Next
     }
     let e = at + MOST;
     if s[e] == NEWLINE {
-        let frame = parse(&s[at..e], xs);
-        if is_call(frame) {
+        let core = quick(&s[at..e], xs);
+        if core < NO_CALL {
             return Next::Line {
-                frame,
+                frame: Frame::Call { core },
                 after: e + 1,
             };
         }

@@ -7,10 +7,10 @@ use Rattle.lines.proofs.all_digits.Statement.{statement}
 use Rattle.lines.proofs.all_digits.Tie as tie
 
 abbrev Inv-loop : tie.InvT-loop
-Inv-loop t line i₀ i = (i ≤ length line) × Left line i
+Inv-loop line i₀ i = (i ≤ length line) × Left line i
 
 abbrev μ-loop : tie.MeasureT-loop
-μ-loop t line i₀ i = length line - i
+μ-loop line i₀ i = length line - i
 
 loop-holds : tie.Need-loop-holds Inv-loop μ-loop
 loop-holds c = search (digits-left, needs)

@@ -1,21 +1,23 @@
--- `lines::mark` meets its promise: the table has the mark of every byte, and none is above 65536.
-use denote.Ref.{now}
+-- `lines::mark` meets its promise: its three branches are the three ranges of `markOf`.
 use borrow.Author.Needs.{needs}
-use Rattle.lines.specs.Marks.{marked}
+use Rattle.lines.specs.Marks.{mark-low, mark-middle, mark-high}
 use Rattle.lines.proofs.mark.Statement.{statement}
 use Rattle.lines.proofs.mark.Tie as tie
 
-mul-result : tie.Need-mul-result
-mul-result c = search needs
-
-element-copy-out-result : tie.Need-element-copy-out-result
-element-copy-out-result c = search needs
-
-cast-result : tie.Need-cast-result
-cast-result c = let m = marked (now (c .before .args .t)) (c .before .args .b) (c .before .pre) (search needs) in search needs
+wrapping-sub-u8-requires : tie.Need-wrapping-sub-u8-requires
+wrapping-sub-u8-requires c κs = search needs
 
 returns : tie.Need-returns
-returns c = marked _ _ (c .before .pre) (search needs)
+returns c = search (mark-low, needs)
+
+returns-2 : tie.Need-returns-2
+returns-2 c = search (mark-middle, needs)
+
+sub-result : tie.Need-sub-result
+sub-result c = search needs
+
+returns-3 : tie.Need-returns-3
+returns-3 c = search (mark-high, needs)
 
 pub mark-spec : {M : Type 1} → statement M
-mark-spec = tie.close (tie.spec mul-result element-copy-out-result cast-result returns)
+mark-spec = tie.close (tie.spec wrapping-sub-u8-requires returns returns-2 sub-result returns-3)

@@ -1,7 +1,7 @@
 -- `lines::next_line` meets its promise: 132 digits have no newline among them, so the one behind them ends the line; all else is searched for.
 use mathlib.Core.Path.{refl}
 use borrow.Author.Needs.{needs}
-use Rattle.lines.specs.Lines.{next-past, next-call, next-scan}
+use Rattle.lines.specs.Lines.{next-past, next-quick, next-slow}
 use Rattle.lines.proofs.next_line.Statement.{statement}
 use Rattle.lines.proofs.next_line.Tie as tie
 
@@ -23,32 +23,29 @@ add-e c = search needs
 shared-slice-read-if3 : tie.Need-shared-slice-read-if3
 shared-slice-read-if3 c = search needs
 
-sub-parse : tie.Need-sub-parse
-sub-parse c = search needs
+sub-quick : tie.Need-sub-quick
+sub-quick c = search needs
 
-part-parse-start : tie.Need-part-parse-start
-part-parse-start c = search needs
+part-quick-start : tie.Need-part-quick-start
+part-quick-start c = search needs
 
-part-parse-end : tie.Need-part-parse-end
-part-parse-end c = search needs
+part-quick-end : tie.Need-part-quick-end
+part-quick-end c = search needs
 
-parse-requires : tie.Need-parse-requires
-parse-requires c κs = search needs
+quick-requires : tie.Need-quick-requires
+quick-requires c κs = search needs
 
-is-call-requires : tie.Need-is-call-requires
-is-call-requires c κs = search needs
-
-add-t18 : tie.Need-add-t18
-add-t18 c = search needs
+add-t19 : tie.Need-add-t19
+add-t19 c = search needs
 
 returns-3 : tie.Need-returns-3
-returns-3 c = next-call _ _ _ _ _ _ refl (c .before .before .parse .ensures) (search needs) (search needs) (cc)
+returns-3 c = next-quick _ _ _ _ _ _ refl (search needs) (c .before .quick .ensures) (search needs) (search needs)
 
 scan-requires-2 : tie.Need-scan-requires-2
 scan-requires-2 c κs = search needs
 
 returns-4 : tie.Need-returns-4
-returns-4 c = next-scan _ _ _ _ _ _ refl (c .before .before .before .before .parse .ensures) _ (cc) (c .scan2 .ensures)
+returns-4 c = next-slow _ _ _ _ _ _ refl (search needs) (c .before .before .before .quick .ensures) _ (search needs) (c .scan2 .ensures)
 
 scan-requires-3 : tie.Need-scan-requires-3
 scan-requires-3 c κs = search needs
@@ -66,12 +63,11 @@ next-line-spec =
     returns-2
     add-e
     shared-slice-read-if3
-    sub-parse
-    part-parse-start
-    part-parse-end
-    parse-requires
-    is-call-requires
-    add-t18
+    sub-quick
+    part-quick-start
+    part-quick-end
+    quick-requires
+    add-t19
     returns-3
     scan-requires-2
     returns-4

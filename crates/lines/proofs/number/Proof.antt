@@ -6,10 +6,10 @@ use Rattle.lines.proofs.number.Statement.{statement}
 use Rattle.lines.proofs.number.Tie as tie
 
 abbrev Inv-loop : tie.InvT-loop
-Inv-loop t line k n at size x₀ i₀ x i = Read line at size i x
+Inv-loop line k n at size x₀ i₀ x i = Read line at size i x
 
 abbrev μ-loop : tie.MeasureT-loop
-μ-loop t line k n at size x₀ i₀ x i = size - i
+μ-loop line k n at size x₀ i₀ x i = size - i
 
 mul-at : tie.Need-mul-at Inv-loop μ-loop
 mul-at c = search needs
@@ -32,8 +32,11 @@ shared-slice-read-mark c = search needs
 mark-requires : tie.Need-mark-requires Inv-loop μ-loop
 mark-requires c κs = search needs
 
+wide-requires : tie.Need-wide-requires Inv-loop μ-loop
+wide-requires c κs = search needs
+
 add-x : tie.Need-add-x Inv-loop μ-loop
-add-x c = read-fits _ _ _ _ _ (c .before .before .before .loop .inv) (search needs) _ (c .mark .ensures .0)
+add-x c = read-fits _ _ _ _ _ (c .before .before .before .before .loop .inv) (search needs) _ (cc)
 
 add-i : tie.Need-add-i Inv-loop μ-loop
 add-i c = search needs
@@ -42,7 +45,7 @@ loop-less : tie.Need-loop-less Inv-loop μ-loop
 loop-less c = search needs
 
 loop-again : tie.Need-loop-again Inv-loop μ-loop
-loop-again c = read-more _ _ _ _ _ (c .before .before .before .loop .inv) (search needs) _ (c .mark .ensures .0)
+loop-again c = read-more _ _ _ _ _ (c .before .before .before .before .loop .inv) (search needs) _ (cc)
 
 returns : tie.Need-returns Inv-loop μ-loop
 returns c = read-all _ _ _ _ _ (c .before .loop .inv) (search needs)
@@ -60,6 +63,7 @@ number-spec =
     add-mark
     shared-slice-read-mark
     mark-requires
+    wide-requires
     add-x
     add-i
     loop-less

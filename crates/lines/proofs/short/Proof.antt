@@ -19,7 +19,7 @@ all-digits-requires : tie.Need-all-digits-requires
 all-digits-requires c κs = search needs
 
 known-frame-requires : tie.Need-known-frame-requires
-known-frame-requires c κs = (search needs, said _ _ _ (c .before .all-digits .ensures) (c .if4 .taken), search needs)
+known-frame-requires c κs = (said _ _ _ (c .before .all-digits .ensures) (c .if4 .taken), search needs)
 
 returns-4 : tie.Need-returns-4
 returns-4 c = hex-line _ _ (λ z. omega arith) (omega arith) (omega arith) (said _ _ _ (c .before .before .all-digits .ensures) (c .before .if4 .taken)) (c .known-frame .ensures)
