@@ -7,6 +7,7 @@ use Rattle.lines.specs.declared.Frame.{Frame}
 use Rattle.lines.specs.declared.Frame.the-variants as Frame
 use Rattle.frames.specs.Frames.{Machine, first, framed}
 use Rattle.frames.specs.declared.Reply.{Reply}
+unfoldable pub use Rattle.stream.specs.Run.{reached as ran}
 
 -- a line as it is read: its frame, and the eight numbers of a call
 abbrev pub Event : Type 0
@@ -31,11 +32,7 @@ next m e = framed m (e .0) (e .1) .0
 abbrev pub reply : Machine → Event → Reply
 reply m e = framed m (e .0) (e .1) .1
 
--- the machine after a run, and the answers in order
-unfoldable pub ran : Machine → Events → Machine
-ran m [] = m
-ran m (e ∷ rest) = ran (next m e) rest
-
+-- the answers to a run, in order; the machine after it is `ran`
 unfoldable pub replies : Machine → Events → List Reply
 replies m [] = []
 replies m (e ∷ rest) = reply m e ∷ replies (next m e) rest
