@@ -22,6 +22,7 @@ use Rattle.mapping.specs.declared.Verdict.the-variants as Verdict
 use Rattle.mapping.specs.declared.Lead.{Lead}
 use Rattle.mapping.specs.declared.Lead.the-variants as Lead
 use Rattle.transfers.specs.declared.Verdict.{Verdict as Moving}
+use Rattle.transfers.specs.declared.Verdict.the-variants as Moving
 use Rattle.judging.specs.declared.Answer.the-variants as Answer
 use Rattle.judging.specs.declared.Deed.the-variants as Deed
 use Rattle.judging.specs.declared.Judged.{Judged}
@@ -63,9 +64,17 @@ module _ (s : View) (a : Args) (key : ℕ) (k l : Lookup) (r : Judged) (same : k
   by-somebody h e g = rw (← same, e) g
 
 -- ---- what the lower layers say
-module _ (k l : Moving) (start count to : ℕ) (r : Judged) where
-  pub moved-by : k ≡ l → r ≡ moving k start count to → r ≡ moving l start count to
-  moved-by same h = rw (← same) h
+module _ (l : Moving) (start count to : ℕ) (r : Judged) where
+  pub moved-by : (k : Moving) → k ≡ l → r ≡ moving k start count to → r ≡ moving l start count to
+  moved-by k same h = rw (← same) h
+
+  pub move-granted : l ≡ Moving.Granted → r ≡ granted Answer.Done (Deed.Move start count to) → r ≡ moving l start count to
+  unfolding moving
+  move-granted e h = rw e h
+
+  pub move-no : (q : Reason) → l ≡ Moving.No q → r ≡ denied q → r ≡ moving l start count to
+  unfolding moving
+  move-no q e h = rw e h
 
 module _ (o : List ℕ) (k l : Place) (world : ℕ) (r : Judged) (same : k ≡ l) where
   pub owns-page : (page x : ℕ) → k ≡ Page page → x ≡ owner o page → r ≡ granted (Answer.Owns (eqb x world)) Deed.Nothing → r ≡ owning o l world
@@ -123,6 +132,8 @@ pub ruleset owns = (owns-page, owns-outside)
 pub ruleset maps = (map-granted, map-nothing, map-no)
 
 pub ruleset leads = (lead-to, lead-nowhere)
+
+pub ruleset verdicts = (move-granted, move-no)
 
 pub ruleset moves = (moved-by, contraries)
 

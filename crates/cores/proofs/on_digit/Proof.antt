@@ -12,10 +12,10 @@ is-on-requires : tie.Need-is-on-requires
 is-on-requires c κs = search needs
 
 returns : tie.Need-returns
-returns c = (bit-yes _ (cc), omega arith)
+returns c = (bit-yes _ (rw (← c .before .before .power-of .ensures, ← c .before .is-on .ensures) (search)), omega arith)
 
 returns-2 : tie.Need-returns-2
-returns-2 c = (bit-no _ (cc), omega arith)
+returns-2 c = (bit-no _ (rw (← c .before .before .power-of .ensures, ← c .before .is-on .ensures) (search)), omega arith)
 
 pub on-digit-spec : {M : Type 1} → statement M
 on-digit-spec = tie.close (tie.spec power-of-requires is-on-requires returns returns-2)

@@ -30,7 +30,8 @@ argument-requires-4 c κs = search needs
 
 returns : tie.Need-returns
 unfolding argsOf
-returns c = cc
+returns c =
+    rw (c .argument4 .ensures, c .before .before .argument3 .ensures, c .before .before .before .before .argument2 .ensures, c .before .before .before .before .before .before .argument .ensures)
 
 pub read-args-spec : {M : Type 1} → statement M
 read-args-spec =

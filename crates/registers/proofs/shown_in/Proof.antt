@@ -18,7 +18,8 @@ number-in-requires-4 c κs = search needs
 
 returns : tie.Need-returns
 unfolding shownIn
-returns c = cc
+returns c =
+    rw (c .number-in4 .ensures, c .before .number-in3 .ensures, c .before .before .number-in2 .ensures, c .before .before .before .number-in .ensures)
 
 pub shown-in-spec : {M : Type 1} → statement M
 shown-in-spec =

@@ -10,7 +10,7 @@ matched-requires : tie.Need-matched-requires
 matched-requires c κs = search needs
 
 returns : tie.Need-returns
-returns c = cc
+returns c = rw (← c .before .of .ensures) (c .matched .ensures)
 
 pub asked-key-spec : {M : Type 1} → statement M
 asked-key-spec = tie.close (tie.spec of-requires matched-requires returns)

@@ -15,7 +15,7 @@ affirm-requires c κs = search needs
 
 returns : tie.Need-returns
 unfolding featuring
-returns c = cc
+returns c = rw (← c .before .before .asked-key .ensures, ← c .before .is-known .ensures) (c .affirm .ensures)
 
 pub known-features-spec : {M : Type 1} → statement M
 known-features-spec =

@@ -10,7 +10,7 @@ grant-requires : tie.Need-grant-requires
 grant-requires c κs = search needs
 
 returns : tie.Need-returns
-returns c = cc
+returns c = rw (← c .before .on-count .ensures) (c .grant .ensures)
 
 pub count-on-spec : {M : Type 1} → statement M
 count-on-spec = tie.close (tie.spec on-count-requires grant-requires returns)

@@ -13,7 +13,7 @@ affirm-requires : tie.Need-affirm-requires
 affirm-requires c κs = search needs
 
 returns : tie.Need-returns
-returns c = cc
+returns c = rw (← c .before .before .asked-key .ensures, ← c .before .is-known .ensures) (c .affirm .ensures)
 
 pub known-power-spec : {M : Type 1} → statement M
 known-power-spec =

@@ -10,7 +10,7 @@ is-on-requires : tie.Need-is-on-requires
 is-on-requires c κs = search needs
 
 returns : tie.Need-returns
-returns c = cc
+returns c = rw (← c .before .power-of .ensures) (c .is-on .ensures)
 
 pub on-core-spec : {M : Type 1} → statement M
 on-core-spec = tie.close (tie.spec power-of-requires is-on-requires returns)

@@ -10,7 +10,7 @@ is-pending-requires : tie.Need-is-pending-requires
 is-pending-requires c κs = search needs
 
 returns : tie.Need-returns
-returns c = cc
+returns c = rw (← c .before .power-of .ensures) (c .is-pending .ensures)
 
 pub pending-core-spec : {M : Type 1} → statement M
 pending-core-spec = tie.close (tie.spec power-of-requires is-pending-requires returns)

@@ -10,7 +10,7 @@ grant-requires : tie.Need-grant-requires
 grant-requires c κs = search needs
 
 returns : tie.Need-returns
-returns c = cc
+returns c = rw (← c .before .state-of .ensures) (c .grant .ensures)
 
 pub stated-spec : {M : Type 1} → statement M
 stated-spec = tie.close (tie.spec state-of-requires grant-requires returns)

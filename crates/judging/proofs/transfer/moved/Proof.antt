@@ -1,6 +1,6 @@
 -- In each arm of `moved` the verdict is known, and with it what `moving` makes of it.
 use borrow.Author.Needs.{needs}
-use Rattle.judging.specs.Judge.{moving}
+use Rattle.judging.specs.Laws.{verdicts}
 use Rattle.judging.proofs.transfer.moved.Statement.{statement}
 use Rattle.judging.proofs.transfer.moved.Tie as tie
 
@@ -17,12 +17,10 @@ refuse-requires : tie.Need-refuse-requires
 refuse-requires c κs = search needs
 
 returns : tie.Need-returns
-unfolding moving
-returns c = cc
+returns c = search verdicts
 
 returns-2 : tie.Need-returns-2
-unfolding moving
-returns-2 c = cc
+returns-2 c = search verdicts
 
 pub moved-spec : {M : Type 1} → statement M
 moved-spec =
