@@ -74,19 +74,19 @@ pack-pair a b g h =
     let z = rest b 0 16 b (omega arith) h in
     rw (x, y, z)
 
-turn-two : (a b : ℕ) → a < 256 → turnTwo (a + b * 0x100) ≡ a * 0x100 + b
+pub turn-two : (a b : ℕ) → a < 256 → turnTwo (a + b * 0x100) ≡ a * 0x100 + b
 turn-two a b h =
     let x = rest (a + b * 0x100) b 0x100 a (omega arith) h in
     let y = quotient (a + b * 0x100) b 0x100 a (omega arith) h in
     rw (x, y)
 
-turn-four : (a b : ℕ) → a < 0x10000 → turnFour (a + b * 0x10000) ≡ turnTwo a * 0x10000 + turnTwo b
+pub turn-four : (a b : ℕ) → a < 0x10000 → turnFour (a + b * 0x10000) ≡ turnTwo a * 0x10000 + turnTwo b
 turn-four a b h =
     let x = rest (a + b * 0x10000) b 0x10000 a (omega arith) h in
     let y = quotient (a + b * 0x10000) b 0x10000 a (omega arith) h in
     rw (x, y)
 
-turn-eight : (a b : ℕ) → a < 0x100000000 → turn (a + b * 0x100000000) ≡ turnFour a * 0x100000000 + turnFour b
+pub turn-eight : (a b : ℕ) → a < 0x100000000 → turn (a + b * 0x100000000) ≡ turnFour a * 0x100000000 + turnFour b
 unfolding turn
 turn-eight a b h =
     let x = rest (a + b * 0x100000000) b 0x100000000 a (omega arith) h in

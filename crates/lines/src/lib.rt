@@ -206,8 +206,8 @@ fn turned_four(v: u64) -> u64
     turned_two(v % 0x10000) * 0x10000 + turned_two(v / 0x10000)
 }
 
-// Eight of them.
-fn turned(v: u64) -> u64
+// A number with its eight bytes in the other order.
+pub fn turned(v: u64) -> u64
     ensures { λ r. ⌜ r ≡ turn v ⌝ }
 {
     turned_four(v % 0x100000000) * 0x100000000 + turned_four(v / 0x100000000)

@@ -106,7 +106,7 @@ pub length-laid : (out : List ℕ) (at : ℕ) (text : List ℕ) → length (laid
 unfolding laid
 length-laid out at text = length-sets out at text
 
-laid-append : (vs ws l : List ℕ) (i : ℕ) → laid (laid l i vs) (i + length vs) ws ≡ laid l i (vs ++ ws)
+pub laid-append : (vs ws l : List ℕ) (i : ℕ) → laid (laid l i vs) (i + length vs) ws ≡ laid l i (vs ++ ws)
 unfolding laid
 laid-append [] ws l i = rw add-zero
 laid-append (v ∷ vs) ws l i = let e : i + suc (length vs) ≡ suc i + length vs = omega arith in rw e (laid-append vs ws (set l i v) (suc i))

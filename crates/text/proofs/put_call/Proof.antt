@@ -38,7 +38,7 @@ same-length : tie.Need-same-length
 same-length c = search needs
 
 returns-3 : tie.Need-returns-3
-returns-3 c = call-put _ _ _ _ _ _ _ _ _ _ _ (search needs) (c .before .before .before .before .before .before .before .before .before .before .before .put-head .ensures) (c .before .before .before .before .before .before .put-shown .ensures) (c .before .before .put-end .ensures)
+returns-3 c = call-put _ _ _ _ _ _ _ _ _ _ _ (search needs) (c .before .before .before .before .before .before .before .before .before .before .put-head .ensures) (c .before .before .before .before .before .before .put-shown .ensures) (c .before .before .put-end .ensures)
 
 pub put-call-spec : {M : Type 1} → statement M
 put-call-spec =

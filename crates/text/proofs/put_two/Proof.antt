@@ -1,0 +1,24 @@
+-- `text::put_two` meets its promise: the higher byte is laid behind the lower.
+use borrow.Author.Needs.{needs}
+use Rattle.text.specs.Many.{two-put}
+use Rattle.text.proofs.put_two.Statement.{statement}
+use Rattle.text.proofs.put_two.Tie as tie
+
+put-byte-requires : tie.Need-put-byte-requires
+put-byte-requires c κs = search needs
+
+add-put-byte : tie.Need-add-put-byte
+add-put-byte c = search needs
+
+put-byte-requires-2 : tie.Need-put-byte-requires-2
+put-byte-requires-2 c κs = search needs
+
+same-length : tie.Need-same-length
+same-length c = search needs
+
+returns : tie.Need-returns
+returns c = search (two-put, needs)
+
+pub put-two-spec : {M : Type 1} → statement M
+put-two-spec =
+    tie.close (tie.spec put-byte-requires add-put-byte put-byte-requires-2 same-length returns)
