@@ -8,4 +8,5 @@ pub mod Rows
 pub mod Packed
 pub mod Signs
 pub mod Whole
+pub mod Parts
 pub mod Cases

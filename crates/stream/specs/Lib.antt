@@ -1,2 +1,3 @@
 pub mod Run
 pub mod Fed
+pub mod Parts
