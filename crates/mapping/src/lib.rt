@@ -9,6 +9,7 @@ ghost use Rattle.mapping.specs.Mapping.{exact, onPages, clashes, hasExac
 ghost use Rattle.mapping.specs.Table.{unmapped, blank, place, stored};
 ghost use Rattle.mapping.specs.Lists.{found, held, holding, released};
 ghost use Rattle.mapping.specs.Question.{asksFree, answers};
+ghost use Rattle.mapping.specs.declared.Question.the-variants.{OnRange};
 
 // The bytes of a page.
 const PAGE_SIZE: u64 = 4096;
@@ -279,6 +280,20 @@ fn find(lists: &Lists, world: u64, q: Question) -> u64
     i
 }
 
+// The same for a physical range, which is asked most often.
+fn find_range(lists: &Lists, world: u64, start: u64, size: u64) -> u64
+    ensures { λ r. ⌜ r ≡ found (now (lists .entry)) world (OnRange start size) ⌝ }
+{
+    let mut i = 0;
+    while i < PLACES {
+        if place_of(lists, world, i).answers(Question::OnRange { start, size }) {
+            return i;
+        }
+        i += 1;
+    }
+    i
+}
+
 // Judges a new mapping of the world: the first test that fails decides.
 pub fn judge_map(
     lists: &Lists,
@@ -339,7 +354,7 @@ pub fn meets_run(lists: &Lists, world: u64, start: u64, count: u64) -> bool
 {
     if count < COUNTABLE {
         let size = count * PAGE_SIZE;
-        return find(lists, world, Question::OnRange { start, size }) < PLACES;
+        return find_range(lists, world, start, size) < PLACES;
     }
     find(lists, world, Question::OnPages { start, count }) < PLACES
 }
