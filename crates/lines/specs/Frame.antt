@@ -207,5 +207,4 @@ module _ (l xs ys : List ℕ) (f : Frame) (p : (f, ys) ≡ parsed l xs) where
 
   -- a call is a line of digits
   pub parsed-digits : isCall f ≡ true → allDigits l ≡ true
-  parsed-digits e =
-      either (allDigits l) (λ y. y) (λ n. let g : f ≡ Refused NoHex = parsed-frame ∙ sym (no-digits l n) in absurd (yes-or-no (isCall f) e (rw g)))
+  parsed-digits e = call-digits l (ap isCall (sym parsed-frame) ∙ e)

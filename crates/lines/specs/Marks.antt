@@ -8,7 +8,7 @@ use native.Mathlib.Nat.{add-zero, zero-add, suc-add}
 use lib.Dec.{ltb}
 use lib.ListN.{getD}
 use borrow.Author.Tests.{lt-ltb, le-ltb, ltb-true, ltb-false}
-use Rattle.rules.specs.Choice.{pick, pick-yes, pick-no, picked, passed, by, either}
+use Rattle.rules.specs.Choice.{pick, picked, passed, by, either}
 use Rattle.rules.specs.Search.{all}
 use Rattle.lines.specs.Hex.{digitOf, isDigit, digitAt, digit-below, digit-low, digit-between, digit-high, digit-above}
 

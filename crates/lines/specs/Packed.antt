@@ -1,11 +1,11 @@
 -- How digits become numbers, many alike at each step: two digits to a pair, a pair to a byte, eight bytes to a number, lowest first, and its bytes turned round.
-use mathlib.Core.Path.{_≡_, refl, sym, ap, _∙_}
+use mathlib.Core.Path.{_≡_, ap, _∙_}
 use mathlib.Core.List.{List}
-use Prim.Native.Nat.{ℕ, zero, suc, _+_, _-_, _*_, _/_, _%_, _≤_, _<_}
+use Prim.Native.Nat.{ℕ, zero, suc, _+_, _*_, _/_, _%_, _<_}
 use native.Mathlib.Omega.{arith}
 use native.Mathlib.Nat.{add-zero}
 use lib.Arith.{digits-div, digits-mod}
-use lib.ListN.{length, getD}
+use lib.ListN.{getD}
 use Rattle.lines.specs.Rows.{Row}
 
 -- each of 128 digits is one

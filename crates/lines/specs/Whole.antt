@@ -4,11 +4,11 @@ use mathlib.Core.Bool.{Bool, true, false, _&&_}
 use mathlib.Core.List.{List}
 use Prim.Native.Nat.{ℕ, zero, suc, _+_, _-_, _*_, _≤_, _<_}
 use native.Mathlib.Omega.{arith}
-use native.Mathlib.Nat.{add-zero, add-assoc}
+use native.Mathlib.Nat.{add-zero}
 use lib.Dec.{ltb}
 use lib.ListN.{length, getD, set}
 use lib.Seq.{ext-getD}
-use borrow.Author.Tests.{lt-ltb, le-ltb, ltb-true, ltb-false}
+use borrow.Author.Tests.{lt-ltb, le-ltb, ltb-true}
 use Rattle.rules.specs.Choice.{pick, pick-yes, pick-no, picked, passed, by, either, yes-or-no, both-true, left-true, right-true}
 use Rattle.rules.specs.Search.{all, all-at, all-if}
 use Rattle.lines.specs.Hex.{digitOf, signOf, digitAt, allDigits, value, number, sign-digit}
@@ -17,7 +17,6 @@ use Rattle.lines.specs.Marks.{markOf, mark-is, mark-tells, mark-on, mark
 use Rattle.lines.specs.Rows.{Row, Filled, filled-none, filled-more, filled-all}
 use Rattle.lines.specs.Packed.{Small, valueIn, wordOf}
 use Rattle.lines.specs.declared.Status.the-variants.{NoHex, Unknown}
-use Rattle.lines.specs.declared.Frame.{Frame}
 use Rattle.lines.specs.declared.Frame.the-variants.{Call, Refused}
 
 -- the core of a call and its numbers; 256 where the line is no call, and the numbers as they stood

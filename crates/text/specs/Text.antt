@@ -122,14 +122,6 @@ module _ (o o₁ o₂ o₃ : List ℕ) (at : ℕ) where
   unfolding headText
   head-put core world a b c = then _ _ _ _ _ _ _ 2 (length-hex 2 0xa1) refl a (then _ _ _ _ _ _ _ 2 (length-hex 2 core) (omega arith) b c)
 
-  pub shown-put :
-      (o₄ : List ℕ) (x0 x1 x2 x3 : ℕ) → o₁ ≡ laid o at (inHex 16 x0) → o₂ ≡ laid o₁ (at + 16) (inHex 16 x1) →
-      o₃ ≡ laid o₂ (at + 32) (inHex 16 x2) → o₄ ≡ laid o₃ (at + 48) (inHex 16 x3) → o₄ ≡ laid o at (shownText x0 x1 x2 x3)
-  unfolding shownText
-  shown-put o₄ x0 x1 x2 x3 a b c d =
-      then _ _ _ _ _ _ _ 16 (length-hex 16 x0) refl a (then _ _ _ _ _ _ _ 16 (length-hex 16 x1) (omega arith) b
-      (then _ _ _ _ _ _ _ 16 (length-hex 16 x2) (omega arith) c d))
-
 pub length-status : (s : Status) → length (statusText s) ≡ 5
 unfolding statusText
 length-status s = simp (length-append, length-hex)
