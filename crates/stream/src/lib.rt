@@ -23,6 +23,12 @@ pub struct Fed {
     pub put: usize,
 }
 
+// Set-up after a frame, and the place behind its answer.
+struct Answered {
+    setup: Setup,
+    put: usize,
+}
+
 // The text of an answer, and the place behind it.
 fn put_reply(out: &mut [u8], at: usize, r: Reply) -> usize
     ensures { λ n. ⌜ (n, now (out .exit)) ≡ put (now (out .entry)) at (textOf r) ⌝ }
@@ -49,7 +55,7 @@ fn answer(
     powers: &mut Powers,
     turns: &mut Turns,
     lists: &mut Lists,
-) -> Fed
+) -> Answered
     ensures { λ r. ⌜ (machine (r .setup) (now (named .exit)) (now (book .exit)) (now (owners .exit)) (now (saved .exit)) (now (powers .exit)) (now (turns .exit)) (now (lists .exit)), (r .put, now (out .exit))) ≡ answered (machine setup (now (named .entry)) (now (book .entry)) (now (owners .entry)) (now (saved .entry)) (now (powers .entry)) (now (turns .entry)) (now (lists .entry))) frame (now (x .entry)) (now (out .entry)) at ⌝ }
 {
     let d = frames::step(
@@ -67,11 +73,7 @@ fn answer(
     let reply = d.reply;
     let next = d.setup;
     let put = put_reply(out, at, reply);
-    Fed {
-        setup: next,
-        used: 0,
-        put,
-    }
+    Answered { setup: next, put }
 }
 
 // Answers the complete lines of a chunk, as far as there is room for their answers.
