@@ -117,7 +117,7 @@ def starts(s):
     s.call("N1", 2, 0xC2000030)
     s.call("N1", 1, 0xC4000004, 2, 0)
     s.call("N1", 0, 0xC4000003, 2, page(23), 0)
-    s.part("the start address is judged at the call only: its page goes to Realm before the arrival")
+    s.part("the start address is not looked at again: its page goes to Realm before the arrival")
     s.call("N0", "R", 0xC4000150)
     s.call("R0", 0, 0xC40001B0, page(23))
     s.arrive(0, 2)

@@ -8,16 +8,16 @@ use native.Mathlib.Omega.{arith}
 use lib.ListN.{getD}
 use borrow.Author.Tests.{eq-eqb}
 use Rattle.rules.specs.Choice.{pick, pick-yes, pick-no, yes-or-no, not-false, second-or, first-or}
-use Rattle.rules.specs.Tests.{sieve, goes, ends}
-use Rattle.identifiers.specs.Identifier.{identifierOf, matched, admitted}
+use Rattle.identifiers.specs.Identifier.{admitted}
 use Rattle.ledger.specs.Ledger.{empty, handler, entered, isAccepted}
 use Rattle.ledger.specs.Only.{only}
 use Rattle.ledger.specs.OneHandler.{Attempt, One, answer, accepted, covers, one-handler}
 use Rattle.ledger.specs.OneHandler as OneHandler
 use Rattle.ledger.specs.declared.Entry.the-variants as Entry
 use Rattle.judging.specs.Names.{secure, normal, realm}
-use Rattle.judging.specs.Judge.{judged, judgedBy, calledBy, argsOf, found, oneOf, callers}
+use Rattle.judging.specs.Judge.{calledBy, argsOf, found, oneOf, callers}
 use Rattle.judging.specs.Grounds.{Calls, Takes}
+use Rattle.judging.specs.Asked.{key, judged-found}
 use Rattle.judging.specs.declared.Judged.{Judged}
 use Rattle.calls.specs.Step.{State, sight, callerOf, judgedIn, called, applied}
 use Rattle.lines.specs.declared.Status.{Status}
@@ -115,7 +115,7 @@ pub one-entry : (run : Events) (kind owner : ℕ) → One (only (covers kind own
 one-entry run kind owner = let k = ledgered run first in let h = one-handler (entries first run) kind owner in rw (← k .is, k .all) at h
 
 -- ---- a call reaches what the ledger says
-is-caller : (w : ℕ) → Calls w → oneOf w callers ≡ true
+pub is-caller : (w : ℕ) → Calls w → oneOf w callers ≡ true
 unfolding oneOf
 is-caller w c =
     ⊎-elim (λ (e : w ≡ normal). rw e)
@@ -123,6 +123,5 @@ is-caller w c =
 
 -- A call from a world that may call, whose bits 23 to 16 pass the test, is judged by the handler of its type and owner, and refused where there is none.
 pub reaches : (s : State) (core : ℕ) (xs : List ℕ) → Calls (callerOf s core) → admitted (calledBy xs) ≡ true
-    → judgedIn s core xs ≡ found (sight s core .view) (argsOf (calledBy xs) xs) (matched (identifierOf (getD xs 0 0))) (handler (s .ledger) (calledBy xs .fast) (calledBy xs .owner))
-unfolding judged judgedBy
-reaches s core xs c ok = sym (goes _ _ _ _ _ _ (not-false _ (is-caller (callerOf s core) c)) (goes _ _ _ _ _ _ (not-false _ ok) (ends _ _ _ refl)))
+    → judgedIn s core xs ≡ found (sight s core .view) (argsOf (calledBy xs) xs) (key xs) (handler (s .ledger) (calledBy xs .fast) (calledBy xs .owner))
+reaches s core xs c ok = judged-found (sight s core) xs (is-caller (callerOf s core) c) ok

@@ -6,13 +6,12 @@ use Rattle.pages.specs.Window.{runOf}
 use Rattle.pages.specs.Owners.{owner}
 use Rattle.pages.specs.declared.Place.the-variants.{Page}
 use Rattle.calls.specs.Step.{sight}
-use Rattle.lines.specs.declared.Status.{Status}
 use Rattle.lines.specs.declared.Status.the-variants.{Accepted}
 use Rattle.lines.specs.declared.Frame.the-variants as Frame
 use Rattle.frames.specs.Frames.{Machine, stateOf}
 use Rattle.frames.specs.declared.Reply.the-variants.{Told}
 use Rattle.judging.specs.Asked.{Granted}
-use Rattle.guarantees.specs.Runs.{Event, Events, next, reply, ran}
+use Rattle.guarantees.specs.Runs.{Event, Events, next, reply, Taken, ran}
 
 -- ---- what names an owner
 -- A granted transfer of a page: the line is a call, it is accepted (its answer is no status), and in the state that it meets
@@ -20,7 +19,7 @@ use Rattle.guarantees.specs.Runs.{Event, Events, next, reply, ran}
 pub record Transfers (m : Machine) (e : Event) (page to : ℕ) : Type 0 where
   pub core : ℕ
   pub is-call : e .0 ≡ Frame.Call core
-  pub accepted : (why : Status) → reply m e ≡ Told why → ⊥
+  pub accepted : Taken (reply m e)
   pub start : ℕ
   pub count : ℕ
   pub granted : Granted (sight (stateOf m) core) (e .1) start count to

@@ -3,11 +3,14 @@ use mathlib.Core.Path.{_≡_, refl, sym, ap, subst, _∙_}
 use mathlib.Core.List.{List, [], _∷_, _++_}
 use Prim.Native.Nat.{ℕ}
 use lib.ListN.{length}
+use Rattle.lines.specs.declared.Status.{Status}
 use Rattle.lines.specs.declared.Frame.{Frame}
 use Rattle.lines.specs.declared.Frame.the-variants as Frame
 use Rattle.frames.specs.Frames.{Machine, first, framed}
 use Rattle.frames.specs.declared.Reply.{Reply}
+use Rattle.frames.specs.declared.Reply.the-variants.{Told}
 unfoldable pub use Rattle.stream.specs.Run.{reached as ran}
+pub use Rattle.stream.specs.Parts.{reached-two as ran-two}
 
 -- a line as it is read: its frame, and the eight numbers of a call
 abbrev pub Event : Type 0
@@ -31,6 +34,10 @@ next m e = framed m (e .0) (e .1) .0
 
 abbrev pub reply : Machine → Event → Reply
 reply m e = framed m (e .0) (e .1) .1
+
+-- an answer that is no status: the line is an accepted call
+abbrev pub Taken : Reply → Type 0
+Taken answer = (why : Status) → answer ≡ Told why → ⊥
 
 -- the answers to a run, in order; the machine after it is `ran`
 unfoldable pub replies : Machine → Events → List Reply
@@ -72,17 +79,6 @@ follows-ran m (e ∷ rest) = go refl (follows-ran (next m e) rest)
 pub carried : (P : Machine → List Reply → Type 0) {m last : Machine} {run : Events} {answers : List Reply}
     → Follows m run last answers → P (ran m run) (replies m run) → P last answers
 carried P f h = let k = follows-is f in rw (k .0, k .1) h
-
--- ---- a run in two parts
-pub ran-two : (m : Machine) (a b : Events) → ran m (a ++ b) ≡ ran (ran m a) b
-unfolding ran
-ran-two m [] b = refl
-ran-two m (e ∷ a) b = ran-two (next m e) a b
-
--- a run and one line more
-pub ran-more : (m : Machine) (a : Events) (e : Event) → ran m (a ++ e ∷ []) ≡ next (ran m a) e
-unfolding ran
-ran-more m a e = ran-two m a (e ∷ [])
 
 -- Every line gets one answer.
 pub replies-count : (m : Machine) (run : Events) → length (replies m run) ≡ length run

@@ -10,7 +10,7 @@ use Rattle.rules.specs.declared.Reason.{Reason}
 use Rattle.ledger.specs.Ledger.{handler}
 use Rattle.identifiers.specs.Identifier.{admitted}
 use Rattle.registers.specs.Registers.{saved, kept}
-use Rattle.cores.specs.Power.{isOn, isPending}
+use Rattle.cores.specs.Power.{turnOf, isOn, isPending}
 use Rattle.cores.specs.Cores.{power, turn}
 use Rattle.pages.specs.Owners.{owner, countOwned}
 use Rattle.pages.specs.declared.Window.{Window}
@@ -38,7 +38,7 @@ use Rattle.frames.specs.Frames.{Machine, machine, first, stateOf, over, shownIn
 use Rattle.frames.specs.declared.Reply.{Reply}
 use Rattle.frames.specs.declared.Reply.the-variants.{Told}
 use Rattle.stream.specs.Run.{textOf}
-use Rattle.guarantees.specs.Runs.{Event, Events}
+use Rattle.guarantees.specs.Runs.{Event, Events, Taken}
 use Rattle.judging.specs.Asked.{key, HandsTo, Finishes, Reached}
 use Rattle.guarantees.specs.Named.{Named}
 
@@ -79,7 +79,7 @@ pub record Guaranteed (m : Machine) (run : Events) (last : Machine) (answers : L
   pub mapped-few : (world : ℕ) → countCovered (window last) (mapped last world) ≤ countOwned (last .owners) (window last .pages) world
   -- A world holds at most sixteen mappings.
   pub sixteen : (world : ℕ) → length (mapped last world) ≤ 16
-  -- The sum that an address leads to does not wrap: it is exact.
+  -- The sum that says where an address leads does not wrap: it is exact.
   pub exact : (world x : ℕ) (n : Mapping) → deciding (mapped last world) x ≡ some n → leadOf (mapped last world) x ≡ To (n .phys + (x - n .virt)) (n .attr)
   -- A core that is ON runs Normal, Secure or Realm.
   pub runs : (core : ℕ) → isOn (power (last .powers) core) ≡ true → Calls (turn (last .turns) core .world)
@@ -105,10 +105,6 @@ pub data Shape : List ℕ → Type 0 where
   call : (core world x0 x1 x2 x3 : ℕ) → Shape (callText core world x0 x1 x2 x3)
 
 -- ---- of one line, met by a machine m: what it leaves, and how it is answered
--- its answer is no status: it is an accepted call
-abbrev pub Taken : Reply → Type 0
-Taken answer = (why : Status) → answer ≡ Told why → ⊥
-
 -- the machine after a refused call: the caller has its eight numbers back, with the refusal in x0, and set-up has ended
 abbrev pub denied : Machine → ℕ → List ℕ → Reason → Machine
 denied m core xs r =
@@ -137,14 +133,20 @@ pub record Heeded (m : Machine) (e : Event) (last : Machine) (answer : Reply) : 
   pub other-cores : (core c u j : ℕ) → e .0 ≡ Frame.Call core → (core ≡ c → ⊥) → saved (last .saved) c u j ≡ saved (m .saved) c u j
   -- Except for a hand-over or its finish, it changes no number saved for another world.
   pub other-worlds : (core c u j : ℕ) → e .0 ≡ Frame.Call core → (callerOf (stateOf m) core ≡ u → ⊥) → ((to : ℕ) → deedIn (stateOf m) core (e .1) ≡ HandOver to → ⊥) → (deedIn (stateOf m) core (e .1) ≡ Finish → ⊥) → saved (last .saved) c u j ≡ saved (m .saved) c u j
-  -- Those two change no world's numbers but the receiver's, who is Normal for a finish.
+  -- Those two change the numbers of no third world: only the caller's, and the receiver's, who is Normal for a finish.
   pub no-receiver : (core u j : ℕ) → e .0 ≡ Frame.Call core → (callerOf (stateOf m) core ≡ u → ⊥) → (Receives (deedIn (stateOf m) core (e .1)) u → ⊥) → saved (last .saved) core u j ≡ saved (m .saved) core u j
-  -- There is a hand-over only where Normal asks for it, by handler 3 or 2; the receiver gets x0 to x7, and its other number stays.
+  -- There is a hand-over where Normal asks for it, by handler 3 or 2, and nowhere else; the receiver then runs, with the hand-over open, and it gets x0 to x7, while its other number stays.
   pub hand-over : (core to : ℕ) → deedIn (stateOf m) core (e .1) ≡ HandOver to → (callerOf (stateOf m) core ≡ normal) × Reached (sight (stateOf m) core) (e .1) (λ h. HandsTo h (key (e .1)) to)
+  pub hand-over-done : (core to : ℕ) → e .0 ≡ Frame.Call core → Taken answer → admitted (calledBy (e .1)) ≡ true → callerOf (stateOf m) core ≡ normal
+      → Reached (sight (stateOf m) core) (e .1) (λ h. HandsTo h (key (e .1)) to) → deedIn (stateOf m) core (e .1) ≡ HandOver to
+  pub handed-runs : (core to : ℕ) → e .0 ≡ Frame.Call core → Taken answer → deedIn (stateOf m) core (e .1) ≡ HandOver to → turn (last .turns) core ≡ turnOf to true
   pub handed : (core to j : ℕ) → e .0 ≡ Frame.Call core → Taken answer → length (e .1) ≡ 8 → deedIn (stateOf m) core (e .1) ≡ HandOver to → j < 8 → saved (last .saved) core to j ≡ getD (e .1) j 0
   pub handed-rest : (core to j : ℕ) → e .0 ≡ Frame.Call core → Taken answer → length (e .1) ≡ 8 → deedIn (stateOf m) core (e .1) ≡ HandOver to → 8 ≤ j → saved (last .saved) core to j ≡ saved (m .saved) core to j
-  -- There is a finish only where Secure or Realm asks for it and a hand-over is open; Normal gets the finisher's x1 to x4 as x0 to x3, and its other numbers stay.
+  -- There is a finish where Secure or Realm asks for it and a hand-over is open, and nowhere else; Normal then runs, with none open, and it gets the finisher's x1 to x4 as x0 to x3, while its other numbers stay.
   pub finish : (core : ℕ) → deedIn (stateOf m) core (e .1) ≡ Finish → Reached (sight (stateOf m) core) (e .1) (λ h. Finishes h (key (e .1)) (callerOf (stateOf m) core)) × (turn (m .turns) core .is_open ≡ true)
+  pub finish-done : (core : ℕ) → e .0 ≡ Frame.Call core → Taken answer → admitted (calledBy (e .1)) ≡ true → turn (m .turns) core .is_open ≡ true
+      → Reached (sight (stateOf m) core) (e .1) (λ h. Finishes h (key (e .1)) (callerOf (stateOf m) core)) → deedIn (stateOf m) core (e .1) ≡ Finish
+  pub finished-runs : (core : ℕ) → e .0 ≡ Frame.Call core → Taken answer → deedIn (stateOf m) core (e .1) ≡ Finish → turn (last .turns) core ≡ turnOf normal false
   pub finished : (core j : ℕ) → e .0 ≡ Frame.Call core → Taken answer → length (e .1) ≡ 8 → deedIn (stateOf m) core (e .1) ≡ Finish → j < 4 → saved (last .saved) core normal j ≡ getD (e .1) (1 + j) 0
   pub finished-rest : (core j : ℕ) → e .0 ≡ Frame.Call core → Taken answer → deedIn (stateOf m) core (e .1) ≡ Finish → 4 ≤ j → saved (last .saved) core normal j ≡ saved (m .saved) core normal j
   -- The caller has the answer's results in x0 and on, and the frame's numbers behind them; its start address stays.

@@ -15,7 +15,7 @@ use Rattle.judging.specs.declared.Answer.the-variants.{No}
 use Rattle.judging.specs.declared.Deed.{Deed}
 use Rattle.judging.specs.declared.Deed.the-variants.{Nothing, Move, Map, Unmap, Start, Stop, HandOver, Finish}
 use Rattle.calls.specs.Step.{State, sight, callerOf, called, arrivedIn}
-use Rattle.calls.specs.Effects.{after, deedIn, answerIn, Receives, refused, saved-spared, own-results, own-frame, own-past, hands, handed-numbers, handed-rest, finishes, finished-numbers, finished-rest, arrival-saved}
+use Rattle.calls.specs.Effects.{after, deedIn, answerIn, Receives, refused, saved-spared, turn-handed, turn-finished, own-results, own-frame, own-past, hands, handed-numbers, handed-rest, finishes, finished-numbers, finished-rest, arrival-saved}
 use Rattle.calls.specs.Kept.{Right}
 use Rattle.lines.specs.declared.Status.{Status}
 use Rattle.lines.specs.declared.Status.the-variants.{Accepted}
@@ -25,11 +25,12 @@ use Rattle.frames.specs.Frames.{Machine, framed, stateOf, seatOf, over, perform
 use Rattle.frames.specs.Stays.{framed-by, shown-not-told, refused-same, told-goes-on, call-ends}
 use Rattle.frames.specs.declared.Reply.{Reply}
 use Rattle.frames.specs.declared.Reply.the-variants.{Told, Called}
-use Rattle.guarantees.specs.Runs.{Event, byte, next, reply}
-use Rattle.judging.specs.Asked.{hand-over-asked, finish-asked}
+use Rattle.guarantees.specs.Runs.{Event, byte, next, reply, Taken}
+use Rattle.judging.specs.Judge.{oneOf, callers}
+use Rattle.judging.specs.Asked.{hand-over-asked, finish-asked, asked-hand-over, asked-finish}
 use Rattle.guarantees.specs.Fit.{Fit}
-use Rattle.guarantees.specs.Entries.{reaches}
-use Rattle.guarantees.specs.Statements.{Taken, denied, Heeded}
+use Rattle.guarantees.specs.Entries.{is-caller, reaches}
+use Rattle.guarantees.specs.Statements.{denied, Heeded}
 
 -- an accepted call: the core may call, and the machine after it is the call's
 record Performs (m : Machine) (core : ℕ) (xs : List ℕ) (o : Machine × Reply) : Type 0 where
@@ -92,6 +93,14 @@ module _ (m : Machine) (fit : Fit m) (e : Event) (core : ℕ) (is : e .0 ≡ Fra
 
     inside : core < 8
     inside = omega (arith, taken t .exists, right .most-cores)
+
+    turns-are : next m e .turns ≡ after (stateOf m) core (e .1) .turns
+    unfolding performed
+    turns-are = ap (λ (o : Machine × Reply). o .0 .turns) (taken t .is)
+
+    -- the world that runs there is one that calls
+    may : oneOf (callerOf (stateOf m) core) callers ≡ true
+    may = is-caller (callerOf (stateOf m) core) (right .seated core inside .world)
 
     calling : callerOf (stateOf m) core < 4
     calling =
@@ -171,10 +180,16 @@ heeded m fit e =
       other-worlds = λ core c u j is n h f. call-spares m fit e core is c u j (λ k. n) (λ k. received (deedIn (stateOf m) core (e .1)) u h f);
       no-receiver = λ core u j is n h. call-spares m fit e core is core u j (λ k. n) (λ k. h);
       hand-over = λ core to d. (hands (stateOf m) core (e .1) to d .0, hand-over-asked (sight (stateOf m) core) (e .1) to d);
+      hand-over-done = λ core to is t ok c r. asked-hand-over (sight (stateOf m) core) (e .1) (may m fit e core is t) ok to c r;
+      handed-runs = λ core to is t d.
+          rw (turns-are m fit e core is t) (turn-handed (stateOf m) core (e .1) to d (right m fit e core is t .whole .turns-whole) (inside m fit e core is t));
       handed = λ core to j is t l d h.
           rw (numbers m fit e core is t) (handed-numbers (stateOf m) core (e .1) to d j (right m fit e core is t .whole .saved-whole) (inside m fit e core is t) l h);
       handed-rest = λ core to j is t l d h. rw (numbers m fit e core is t) (handed-rest (stateOf m) core (e .1) to d j (omega arith));
       finish = λ core d. (finish-asked (sight (stateOf m) core) (e .1) d, finishes (stateOf m) core (e .1) d .1);
+      finish-done = λ core is t ok o r. asked-finish (sight (stateOf m) core) (e .1) (may m fit e core is t) ok o r;
+      finished-runs = λ core is t d.
+          rw (turns-are m fit e core is t) (turn-finished (stateOf m) core (e .1) d (right m fit e core is t .whole .turns-whole) (inside m fit e core is t));
       finished = λ core j is t l d h.
           rw (numbers m fit e core is t) (finished-numbers (stateOf m) core (e .1) d j (right m fit e core is t .whole .saved-whole) (inside m fit e core is t) l h);
       finished-rest = λ core j is t d h. rw (numbers m fit e core is t) (finished-rest (stateOf m) core (e .1) d j h);

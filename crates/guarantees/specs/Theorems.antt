@@ -23,12 +23,12 @@ use Rattle.frames.specs.Frames.{Machine, first, stateOf}
 use Rattle.frames.specs.declared.Reply.{Reply}
 use Rattle.frames.specs.declared.Reply.the-variants.{Told, Called}
 use Rattle.stream.specs.Run.{textOf, answers, printed}
-use Rattle.guarantees.specs.Runs.{Event, Events, byte, next, reply, ran, replies, replies-count, Allowed, Follows, carried, follows-is, follows-ran}
+use Rattle.guarantees.specs.Runs.{Event, Events, byte, next, reply, Taken, ran, replies, replies-count, Allowed, Follows, carried, follows-is, follows-ran}
 use Rattle.judging.specs.Asked.{key}
 use Rattle.guarantees.specs.Named.{Named, by-transfer, by-set-up, as-before, LastTransfer, Unmoved}
 use Rattle.guarantees.specs.Fit.{first-fit, ran-fit}
 use Rattle.guarantees.specs.Entries.{entries, one-entry}
-use Rattle.guarantees.specs.Statements.{Guaranteed, Taken, Heeded, ownerIn, texts, Shape, status, call}
+use Rattle.guarantees.specs.Statements.{Guaranteed, Heeded, ownerIn, texts, Shape, status, call}
 use Rattle.guarantees.specs.Steps.{heeded}
 use Rattle.guarantees.specs.After.{guaranteed-after}
 
@@ -87,14 +87,14 @@ none-names [] (b ∷ before) line later lowest count to e k = let z : _≡_ {A =
 none-names (s ∷ steps) [] line later lowest count to e k = let h : event s ≡ line = cc in no-name s line lowest count to h k
 none-names (s ∷ steps) (b ∷ before) line later lowest count to e k = let h : map event steps ≡ before ++ line ∷ later = cc in none-names steps before line later lowest count to h k
 
--- set-up lines, a run of steps after them, and what keeps the promise of the step all the way
+-- any lines with an accepted 11 among them, then a run of steps, and what keeps the promise of the step all the way
 module _ (lines : Events) (m : Machine) (told : List Reply) (set-up : Follows first lines m told) (accepted : m .setup .ready ≡ true)
     (steps : List Step) (last : Machine) (given : List Reply) (run : Follows m (map event steps) last given) where
   -- After any run of calls and arrivals, refused ones among them, all that is guaranteed holds.
   pub any-steps : Guaranteed m (map event steps) last given
   any-steps = carried (Guaranteed m (map event steps)) run (rw (follows-is set-up .0) (guaranteed-after (ran first lines) (ran-fit lines) (map event steps)))
 
-  -- The owner of a page is named by the last granted transfer of the page, or by the set-up, if there was none.
+  -- The owner of a page is named by the last granted transfer of the page; if there was none, it is the owner whom the set-up left, and `any-run` says who that is.
   pub owner-since : (page : ℕ) → LastTransfer m (map event steps) page (ownerIn last page) ⊎ (Unmoved m (map event steps) page × (ownerIn last page ≡ ownerIn m page))
   owner-since page = which _ (any-steps .owner-named page)
     where

@@ -7,12 +7,13 @@ use Prim.Native.Nat.{ℕ, _≤_, _<_}
 use native.Mathlib.Omega.{arith}
 use lib.Dec.{eqb, ltb}
 use lib.ListN.{getD}
-use borrow.Author.Tests.{eqb-true, eqb-false, ltb-false, not-false}
+use borrow.Author.Tests.{eqb-true, eqb-false, ne-eqb, ltb-false, le-ltb, not-false}
 use Rattle.rules.specs.Choice.{pick, chosen, either}
-use Rattle.rules.specs.Tests.{Test, sieved, Clear}
+use Rattle.rules.specs.Choice as Choice
+use Rattle.rules.specs.Tests.{Test, sieve, sieved, goes, ends, Clear}
 use Rattle.rules.specs.declared.Reason.{Reason}
 use Rattle.rules.specs.declared.Reason.the-variants as Reason
-use Rattle.identifiers.specs.Identifier.{identifierOf, matched}
+use Rattle.identifiers.specs.Identifier.{identifierOf, matched, admitted}
 use Rattle.ledger.specs.Ledger.{handler}
 use Rattle.ledger.specs.declared.Lookup.{Lookup}
 use Rattle.ledger.specs.declared.Lookup.the-variants.{Handler, Nobody}
@@ -25,8 +26,8 @@ use Rattle.mapping.specs.declared.Lead.{Lead}
 use Rattle.mapping.specs.declared.Lead.the-variants as Lead
 use Rattle.transfers.specs.declared.Verdict.{Verdict as Moving}
 use Rattle.transfers.specs.declared.Verdict.the-variants as Moving
-use Rattle.judging.specs.Names.{secure, normal, realm, coreOff, coreStart, coreStartWide, granuleToRealm, granuleToNormal, realmFirst, realmLast, realmFinish, takePages, givePages, mapPages, unmapPages, secureFinish}
-use Rattle.judging.specs.Judge.{View, Sight, denied, granted, tested, wanted, calledBy, argsOf, affirmed, featuring, architecture, starting, stating, stopping, versioning, powering, moving, granuleIn, granuleOut, taking, giving, owning, mapping, unmapping, leading, board, handing, finishing, ranged, realms, standard, trusted, byHandler, found, judgedBy, judged}
+use Rattle.judging.specs.Names.{secure, normal, realm, powerVersion, coreOff, coreStart, coreStartWide, coreState, coreStateWide, powerFeatures, granuleToRealm, granuleToNormal, realmFirst, realmLast, realmFinish, takePages, givePages, mapPages, unmapPages, secureFinish}
+use Rattle.judging.specs.Judge.{View, Sight, denied, granted, tested, oneOf, callers, wanted, calledBy, argsOf, affirmed, featuring, architecture, starting, stating, stopping, versioning, powering, moving, granuleIn, granuleOut, taking, giving, owning, mapping, unmapping, leading, board, handing, finishing, ranged, realms, standard, trusted, byHandler, found, judgedBy, judged}
 use Rattle.judging.specs.declared.Answer.{Answer}
 use Rattle.judging.specs.declared.Answer.the-variants as Answer
 use Rattle.judging.specs.declared.Deed.{Deed}
@@ -268,3 +269,50 @@ pub moves-granted : (s : Sight) (xs : List ℕ) (start count to : ℕ) → judge
 moves-granted s xs start count to e =
     let r = deed-asked s xs (Move start count to) (λ k. let z : _≡_ {A = ℕ} 0 1 = cc in omega arith) e in
     record { number = r .number; reached = r .reached; asks = r .so .0; answered = r .so .1 }
+
+-- ---- and a hand-over or a finish that is asked for is done
+module _ (s : View) (a : Args) where
+  hands-done : (h k to : ℕ) → s .seen .caller ≡ normal → HandsTo h k to → byHandler s a k h .deed ≡ HandOver to
+  unfolding byHandler standard realms ranged trusted handing sieve pick
+  hands-done h k to e (to-secure key n) = rw (ne-eqb key secureFinish n, e)
+  hands-done h k to e (to-realm key low high) =
+      rw (
+        ne-eqb key powerVersion (λ z. omega arith),
+        ne-eqb key coreOff (λ z. omega arith),
+        ne-eqb key coreStart (λ z. omega arith),
+        ne-eqb key coreStartWide (λ z. omega arith),
+        ne-eqb key coreState (λ z. omega arith),
+        ne-eqb key coreStateWide (λ z. omega arith),
+        ne-eqb key powerFeatures (λ z. omega arith),
+        ne-eqb key granuleToRealm (λ z. omega arith),
+        ne-eqb key granuleToNormal (λ z. omega arith),
+        ne-eqb key realmFinish (λ z. omega arith),
+        le-ltb key realmFirst low,
+        le-ltb realmLast key high,
+        e,
+      )
+
+  finishes-done : (h k w : ℕ) → s .seen .caller ≡ w → s .seen .is_open ≡ true → Finishes h k w → byHandler s a k h .deed ≡ Finish
+  unfolding byHandler standard realms trusted finishing sieve pick
+  finishes-done h k w e o by-secure = rw (e, o)
+  finishes-done h k w e o by-realm = rw (e, o)
+
+-- a call from a world that may call, whose bits 23 to 16 pass the test, is judged by the handler of its type and owner, and refused where there is none
+pub judged-found : (s : Sight) (xs : List ℕ) → oneOf (s .view .seen .caller) callers ≡ true → admitted (calledBy xs) ≡ true
+    → judged s xs ≡ found (s .view) (argsOf (calledBy xs) xs) (key xs) (handler (s .ledger) (calledBy xs .fast) (calledBy xs .owner))
+unfolding judged judgedBy
+judged-found s xs c ok = sym (goes _ _ _ _ _ _ (Choice.not-false _ c) (goes _ _ _ _ _ _ (Choice.not-false _ ok) (ends _ _ _ refl)))
+
+module _ (s : Sight) (xs : List ℕ) (may : oneOf (s .view .seen .caller) callers ≡ true) (ok : admitted (calledBy xs) ≡ true) where
+  found-at : (h : ℕ) → handler (s .ledger) (calledBy xs .fast) (calledBy xs .owner) ≡ Handler h → judged s xs ≡ byHandler (s .view) (argsOf (calledBy xs) xs) (key xs) h
+  unfolding found
+  found-at h l = judged-found s xs may ok ∙ rw l
+
+  -- A hand-over that Normal asks for is done.
+  pub asked-hand-over : (to : ℕ) → s .view .seen .caller ≡ normal → Reached s xs (λ h. HandsTo h (key xs) to) → judged s xs .deed ≡ HandOver to
+  asked-hand-over to e r = ap (λ (j : Judged). j .deed) (found-at (r .number) (r .reached)) ∙ hands-done (s .view) (argsOf (calledBy xs) xs) (r .number) (key xs) to e (r .so)
+
+  -- A finish that is asked for while a hand-over is open is done.
+  pub asked-finish : s .view .seen .is_open ≡ true → Reached s xs (λ h. Finishes h (key xs) (s .view .seen .caller)) → judged s xs .deed ≡ Finish
+  asked-finish o r =
+      ap (λ (j : Judged). j .deed) (found-at (r .number) (r .reached)) ∙ finishes-done (s .view) (argsOf (calledBy xs) xs) (r .number) (key xs) (s .view .seen .caller) refl o (r .so)
