@@ -82,7 +82,8 @@ fn drain(
     }
 }
 
-// Reads behind the first `kept` bytes, which stay, and says how many bytes there are then: `kept` where the input has ended.
+// Reads behind the first `kept` bytes, which stay, and says how many bytes there are then: `kept` where the input has
+// ended or cannot be read.
 fn fill(buf: &mut [u8], kept: usize) -> usize
     requires { ⌜ kept ≤ length (now buf) ⌝ }
     ensures { λ r. ⌜ (kept ≤ r) × (r ≤ length (now (buf .exit))) × (take kept (now (buf .exit)) ≡ take kept (now (buf .entry))) ⌝ }
@@ -238,13 +239,14 @@ fn turn(
     )
 }
 
-// Set-up at the end, and whether the input was answered to its end.
+// Set-up at the end, and whether the input was read to its end.
 pub struct Served {
     pub setup: Setup,
     pub whole: bool,
 }
 
-// Reads until the input ends or a write fails.
+// Reads until the input ends or a write fails. There is room for the 133 bytes that may wait and a newline, and for two
+// answers, so that the longest still fits behind the last. The count only has the loop end: no input needs so many reads.
 fn serve(
     setup: Setup,
     buf: &mut [u8],

@@ -374,7 +374,7 @@ fn known_frame(line: &[u8]) -> Frame
     }
 }
 
-// A line of another length than a call's.
+// The frame of a line whose length is not a call's, however long it is.
 fn short(line: &[u8]) -> Frame
     requires { ⌜ (length (now line) ≡ 132 → ⊥) ⌝ }
     ensures { λ r. ⌜ r ≡ frameOf (now (line .entry)) ⌝ }

@@ -165,7 +165,7 @@ impl Mapping {
         do_meet(self.phys, self.size, m.phys, m.size)
     }
 
-    // Whether one of the three is unaligned, or the attributes are none.
+    // Whether one of the three is unaligned, or the attributes are none of the three that there are.
     fn is_malformed(self) -> bool
         ensures { λ r. ⌜ r ≡ malformed self ⌝ }
     {
@@ -280,7 +280,7 @@ fn find(lists: &Lists, world: u64, q: Question) -> u64
     i
 }
 
-// The same for a physical range, which is asked most often.
+// The same for a physical range: it is asked at every transfer, so it has a loop in which the question is known.
 fn find_range(lists: &Lists, world: u64, start: u64, size: u64) -> u64
     ensures { λ r. ⌜ r ≡ found (now (lists .entry)) world (OnRange start size) ⌝ }
 {
@@ -359,7 +359,7 @@ pub fn meets_run(lists: &Lists, world: u64, start: u64, count: u64) -> bool
     find(lists, world, Question::OnPages { start, count }) < PLACES
 }
 
-// Where the address leads, by the mapping that decides it.
+// Where the address leads, by the mapping that decides it. In a table that a run leaves, the sum does not wrap.
 pub fn lead_of(lists: &Lists, world: u64, address: u64) -> Lead
     ensures { λ r. ⌜ r ≡ leadOf (held (now (lists .entry)) world) address ⌝ }
 {

@@ -30,7 +30,7 @@ pub enum Reason {
     NotOwned,
     // no mapping holds the address
     Nowhere,
-    // an unaligned mapping, or attributes that are none
+    // an unaligned mapping, or attributes that are none of the three
     Malformed,
     // no mapping has this start and size
     NoMapping,

@@ -16,6 +16,9 @@ use pages::Named;
 use pages::Owners;
 use registers::Saved;
 
+// The longest answer, a call's.
+const LONGEST: usize = 71;
+
 // How far a chunk was read, how much was printed, and set-up after it.
 pub struct Fed {
     pub setup: Setup,
@@ -96,7 +99,7 @@ pub fn feed(
     let mut at: usize = 0;
     let mut put: usize = 0;
     while at < chunk.len() {
-        if out.len() - put < 71 {
+        if out.len() - put < LONGEST {
             return Fed {
                 setup: s,
                 used: at,

@@ -10,7 +10,12 @@ ghost use Rattle.lines.specs.Frame.{statusByte};
 ghost use Rattle.text.specs.Text.{Signs, inHex, headText, shownText, statusText, callText, laid, put};
 ghost use Rattle.text.specs.Many.{twoOf, fourOf, eightOf, fourNumbers, signPair, signsAt, twoAt, fourFrom, fourAt, eights};
 
-// The signs of the sixteen digits.
+// The size of each answer, a status and a call.
+const STATUS: usize = 5;
+
+const CALL: usize = 71;
+
+// The signs of the sixteen digits, for the few digits of a status or a head; whole numbers are put many digits at a time.
 fn signs() -> [u8; 16]
     ensures { λ r. ⌜ Signs r ⌝ }
 {
@@ -194,24 +199,25 @@ fn put_shown(out: &mut [u8], at: usize, x0: u64, x1: u64, x2: u64, x3: u64)
     put_words(&qs, out, at);
 }
 
-// The answer to a frame that is no accepted call: a0 and the status. It returns the place behind it.
+// The answer to a frame that is no accepted call: a0 and the status. It returns the place
+// behind it; where the answer does not fit, nothing is put and the place stays.
 pub fn put_status(out: &mut [u8], at: usize, s: Status) -> usize
     ensures { λ r. ⌜ (r, now (out .exit)) ≡ put (now (out .entry)) at (statusText s) ⌝ }
 {
-    if out.len() < 5 {
+    if out.len() < STATUS {
         return at;
     }
-    if out.len() - 5 < at {
+    if out.len() - STATUS < at {
         return at;
     }
     let t = signs();
     put_digits(&t, out, at, 2, 0xa0);
     put_digits(&t, out, at + 2, 2, byte_of(s));
     put_end(out, at + 4);
-    at + 5
+    at + STATUS
 }
 
-// The answer to an accepted call: a1, the core, the world that runs there and its x0 to x3.
+// The answer to an accepted call: a1, the core, the world that runs there and its x0 to x3; put or not in the same way.
 pub fn put_call(
     out: &mut [u8],
     at: usize,
@@ -224,15 +230,15 @@ pub fn put_call(
 ) -> usize
     ensures { λ r. ⌜ (r, now (out .exit)) ≡ put (now (out .entry)) at (callText core world x0 x1 x2 x3) ⌝ }
 {
-    if out.len() < 71 {
+    if out.len() < CALL {
         return at;
     }
-    if out.len() - 71 < at {
+    if out.len() - CALL < at {
         return at;
     }
     let t = signs();
     put_head(&t, out, at, core, world);
     put_shown(out, at + 6, x0, x1, x2, x3);
     put_end(out, at + 70);
-    at + 71
+    at + CALL
 }
