@@ -239,7 +239,7 @@ fn turn(
     )
 }
 
-// Set-up at the end, and whether the input was read to its end.
+// Set-up at the end, and whether the input was read to its end, or to where it can be read no further.
 pub struct Served {
     pub setup: Setup,
     pub whole: bool,

@@ -159,13 +159,6 @@ module _ (m : Machine) (f : Frame) (xs : List ℕ) where
   pub ledger-stays : m .setup .ended ≡ true → framed m f xs .0 .ledger ≡ m .ledger
   ledger-stays e = settled e .ledger
 
-  -- set-up never ends before its site is fixed
-  pub ended-ready : (m .setup .ended ≡ true → m .setup .ready ≡ true) → framed m f xs .0 .setup .ended ≡ true → framed m f xs .0 .setup .ready ≡ true
-  unfolding performed
-  ended-ready h =
-      framed-by m xs (λ (g : Frame) (o : Machine × Reply). o .0 .setup .ended ≡ true → o .0 .setup .ready ≡ true)
-      (λ w. h) (λ g w d. h) (λ base pages cores a b k. refl) (λ first last kind number a b c k. a) (λ first count to a b c k. a) (λ core a b c k. a) (λ core a b c k. a) f
-
 -- ---- the two steps of the calls' state, as frames
 module _ (m : Machine) (core : ℕ) where
   pub call-state : (xs : List ℕ) → stateOf (withState m (performed (m .setup) (stateOf m) core xs) .0) ≡ called (stateOf m) core xs .0

@@ -95,8 +95,8 @@ Holds (always id n) = (c : Call) → identifier c ≡ id → Answered c n
 Holds (answers ids h worlds facts n) = (c : Call) → Among (identifier c) ids → Reaches c h → Among (world c) worlds → facts c → Answered c n
 
 -- -n, as it is written
-abbrev pub minus : ℕ → ℕ
-minus n = 2 ^ 64 - n
+abbrev pub negative : ℕ → ℕ
+negative n = 2 ^ 64 - n
 
 -- every world but Root, which makes no calls
 abbrev pub anyWorld : List ℕ
@@ -133,15 +133,15 @@ table =
     splits 0x84000000 (record { fast = 1; wide = 0; owner = 4; function = 0; reserved = 0 })  -- P1
     ∷ splits 0xC40001B0 (record { fast = 1; wide = 1; owner = 4; function = 0x1B0; reserved = 0 })  -- P2
     ∷ splits 0xF2000000 (record { fast = 1; wide = 1; owner = 50; function = 0; reserved = 0 })  -- P3
-    ∷ always 0x84010000 (minus 1)  -- P4
+    ∷ always 0x84010000 (negative 1)  -- P4
     ∷ passes 0x04010000  -- P5
-    ∷ answers onePage 2 (realm ∷ []) (PageAt (λ w. w .base + 4095)) (minus 2)  -- P6
-    ∷ answers onePage 2 (realm ∷ []) (PageAt (λ w. w .base + 4096 * w .pages)) (minus 2)  -- P7
+    ∷ answers onePage 2 (realm ∷ []) (PageAt (λ w. w .base + 4095)) (negative 2)  -- P6
+    ∷ answers onePage 2 (realm ∷ []) (PageAt (λ w. w .base + 4096 * w .pages)) (negative 2)  -- P7
     ∷ answers (0xC2000020 ∷ []) 1 anyWorld (λ c. x c 3 ≡ 0) 0  -- P8, whatever the addresses
-    ∷ answers (0xC2000020 ∷ []) 1 anyWorld (λ c. (x c 3 ≡ 4096) × (x c 4 ≡ 3)) (minus 22)  -- P9
-    ∷ answers (0xC2000021 ∷ []) 1 anyWorld HalfTheOnly (minus 22)  -- P10
-    ∷ answers (0x84000004 ∷ 0xC4000004 ∷ []) 2 (normal ∷ []) (λ c. x c 2 ≡ 1) (minus 2)  -- P11
-    ∷ answers (0x84000003 ∷ 0xC4000003 ∷ []) 2 (normal ∷ []) OneselfWell (minus 4)  -- P12
+    ∷ answers (0xC2000020 ∷ []) 1 anyWorld (λ c. (x c 3 ≡ 4096) × (x c 4 ≡ 3)) (negative 22)  -- P9
+    ∷ answers (0xC2000021 ∷ []) 1 anyWorld HalfTheOnly (negative 22)  -- P10
+    ∷ answers (0x84000004 ∷ 0xC4000004 ∷ []) 2 (normal ∷ []) (λ c. x c 2 ≡ 1) (negative 2)  -- P11
+    ∷ answers (0x84000003 ∷ 0xC4000003 ∷ []) 2 (normal ∷ []) OneselfWell (negative 4)  -- P12
     ∷ []
 
 -- each row holds
@@ -202,7 +202,7 @@ unfolding judged judgedBy identifierOf parts admitted sieve pick
 p4 c e = answered c (Answer.No Reason.Unserved) refl (rw e (either (oneOf (world c) callers) (λ y. rw y) (λ n. rw n)))
 
 -- a page that is none of the window
-no-page : (c : Call) → Among (identifier c) onePage → Reaches c 2 → world c ≡ realm → runOf (window c) (x c 1) 1 ≡ Outside → Answered c (minus 2)
+no-page : (c : Call) → Among (identifier c) onePage → Reaches c 2 → world c ≡ realm → runOf (window c) (x c 1) 1 ≡ Outside → Answered c (negative 2)
 unfolding argsOf byHandler standard realms granuleIn granuleOut moving moveVerdict moveTests pick sieve admitted parts
 no-page c (inl e) to r o = settled c e to (from-realm r) (Answer.No Reason.Invalid) refl refl (rw (r, o))
 no-page c (inr (inl e)) to r o = settled c e to (from-realm r) (Answer.No Reason.Invalid) refl refl (rw (r, o))

@@ -10,7 +10,7 @@ use Rattle.rules.specs.declared.Reason.{Reason}
 use Rattle.ledger.specs.Ledger.{handler}
 use Rattle.identifiers.specs.Identifier.{admitted}
 use Rattle.registers.specs.Registers.{saved, kept}
-use Rattle.cores.specs.Power.{turnOf, isOn, isPending}
+use Rattle.cores.specs.Power.{turnOf, put, on, isOn, isPending}
 use Rattle.cores.specs.Cores.{power, turn}
 use Rattle.pages.specs.Owners.{owner, countOwned}
 use Rattle.pages.specs.declared.Window.{Window}
@@ -27,7 +27,7 @@ use Rattle.judging.specs.Grounds.{Calls}
 use Rattle.judging.specs.declared.Answer.the-variants.{No}
 use Rattle.judging.specs.declared.Deed.the-variants.{HandOver, Finish}
 use Rattle.rules.specs.Reasons.{minus}
-use Rattle.calls.specs.Step.{sight, callerOf, judgedIn}
+use Rattle.calls.specs.Step.{sight, callerOf, judgedIn, startNumbers}
 use Rattle.calls.specs.Effects.{deedIn, answerIn, resultsIn, Receives}
 use Rattle.lines.specs.declared.Status.{Status}
 use Rattle.lines.specs.declared.Status.the-variants.{Accepted}
@@ -67,7 +67,7 @@ pub record Guaranteed (m : Machine) (run : Events) (last : Machine) (answers : L
   pub owner-world : (page : ℕ) → ownerIn last page ≤ 3
   -- A world's mappings cover only pages which it owns.
   pub mapped-owned : (world page : ℕ) → covers (window last) (mapped last world) page ≡ true → ownerIn last page ≡ world
-  -- Each of them is of whole pages inside the window, and ends at or below 2^32.
+  -- Each of them is of some whole pages inside the window, ends at or below 2^32, and has attributes 0, 1 or 2.
   pub mapped-inside : (world : ℕ) → Every (Formed (window last)) (mapped last world)
   -- Each page is covered at most once in a world.
   pub mapped-once : (world page : ℕ) → coverings (window last) (mapped last world) page ≤ 1
@@ -153,6 +153,9 @@ pub record Heeded (m : Machine) (e : Event) (last : Machine) (answer : Reply) : 
   pub caller-results : (core j : ℕ) → e .0 ≡ Frame.Call core → Taken answer → j < length (resultsIn (stateOf m) core (e .1)) → saved (last .saved) core (callerOf (stateOf m) core) j ≡ getD (resultsIn (stateOf m) core (e .1)) j 0
   pub caller-numbers : (core j : ℕ) → e .0 ≡ Frame.Call core → Taken answer → length (e .1) ≡ 8 → length (resultsIn (stateOf m) core (e .1)) ≤ j → j < 8 → saved (last .saved) core (callerOf (stateOf m) core) j ≡ getD (e .1) j 0
   pub caller-rest : (core j : ℕ) → e .0 ≡ Frame.Call core → length (e .1) ≡ 8 → 8 ≤ j → saved (last .saved) core (callerOf (stateOf m) core) j ≡ saved (m .saved) core (callerOf (stateOf m) core) j
+  -- An accepted arrival leaves the core ON in Normal, with nothing open, its context in x0, zero in x1 to x7, and its start address.
+  pub arrived : (core j : ℕ) → e .0 ≡ Frame.Arrival core → answer ≡ Told Accepted → j < 9
+      → (power (last .powers) core ≡ put (power (m .powers) core) on) × ((turn (last .turns) core ≡ turnOf normal false) × (saved (last .saved) core normal j ≡ getD (startNumbers (power (m .powers) core)) j 0))
   -- An arrival changes no number but Normal's on its core.
   pub arrival-saved : (core c u j : ℕ) → e .0 ≡ Frame.Arrival core → (core ≡ c → normal ≡ u → ⊥) → saved (last .saved) c u j ≡ saved (m .saved) c u j
   -- No other line changes a saved number.

@@ -5,17 +5,18 @@ use mathlib.Core.List.{List, [], _∷_}
 use mathlib.Core.Logic.{⊎-elim}
 use Prim.Native.Nat.{ℕ, _≤_, _<_}
 use native.Mathlib.Omega.{arith}
+use lib.ListN.{getD}
 use Rattle.registers.specs.Registers.{saved}
 use Rattle.rules.specs.declared.Reason.{Reason}
-use Rattle.cores.specs.Power.{isOn, isPending}
-use Rattle.cores.specs.Cores.{power}
+use Rattle.cores.specs.Power.{turnOf, put, on, isOn, isPending}
+use Rattle.cores.specs.Cores.{power, turn}
 use Rattle.judging.specs.Names.{secure, normal, realm}
 use Rattle.judging.specs.Grounds.{Takes}
 use Rattle.judging.specs.declared.Answer.the-variants.{No}
 use Rattle.judging.specs.declared.Deed.{Deed}
 use Rattle.judging.specs.declared.Deed.the-variants.{Nothing, Move, Map, Unmap, Start, Stop, HandOver, Finish}
-use Rattle.calls.specs.Step.{State, sight, callerOf, called, arrivedIn}
-use Rattle.calls.specs.Effects.{after, deedIn, answerIn, Receives, refused, saved-spared, turn-handed, turn-finished, own-results, own-frame, own-past, hands, handed-numbers, handed-rest, finishes, finished-numbers, finished-rest, arrival-saved}
+use Rattle.calls.specs.Step.{State, sight, callerOf, called, arrivedIn, startNumbers}
+use Rattle.calls.specs.Effects.{after, deedIn, answerIn, Receives, refused, saved-spared, turn-handed, turn-finished, own-results, own-frame, own-past, hands, handed-numbers, handed-rest, finishes, finished-numbers, finished-rest, arrival-saved, arrived-numbers, arrived-power, arrived-turn}
 use Rattle.calls.specs.Kept.{Right}
 use Rattle.lines.specs.declared.Status.{Status}
 use Rattle.lines.specs.declared.Status.the-variants.{Accepted}
@@ -163,6 +164,28 @@ module _ (m : Machine) (e : Event) where
       by-reply (Told why) k = absurd (t why k)
       by-reply (Called core world x) k = call-ends m (e .0) (e .1) core world x k
 
+-- an accepted arrival
+arrival-leaves : (m : Machine) → Fit m → (e : Event) (core : ℕ) → e .0 ≡ Frame.Arrival core → reply m e ≡ Told Accepted → (j : ℕ) → j < 9
+    → (power (next m e .powers) core ≡ put (power (m .powers) core) on) × ((turn (next m e .turns) core ≡ turnOf normal false) × (saved (next m e .saved) core normal j ≡ getD (startNumbers (power (m .powers) core)) j 0))
+unfolding performed
+arrival-leaves m fit e core is told j h =
+    framed-by m (e .1) (λ (g : Frame) (o : Machine × Reply). e .0 ≡ g → framed m (e .0) (e .1) ≡ o → (power (o .0 .powers) core ≡ put (power (m .powers) core) on) × ((turn (o .0 .turns) core ≡ turnOf normal false) × (saved (o .0 .saved) core normal j ≡ getD (startNumbers (power (m .powers) core)) j 0)))
+    (λ why k s. absurd (omega (arith, ap byte (sym is ∙ k))))
+    (λ g why d k s. absurd (let q : Told why ≡ Told Accepted = sym (ap (λ (o : Machine × Reply). o .1) s) ∙ told in d cc))
+    (λ base pages cores a b k s. absurd (omega (arith, ap byte (sym is ∙ k)))) (λ lowest last kind number a b c k s. absurd (omega (arith, ap byte (sym is ∙ k))))
+    (λ lowest count to a b c k s. absurd (omega (arith, ap byte (sym is ∙ k)))) (λ c a b d k s. absurd (omega (arith, ap byte (sym is ∙ k))))
+    (λ c a b d k s.
+    let q : Frame.Arrival core ≡ Frame.Arrival c = sym is ∙ k in
+    let z : core ≡ c = cc in
+    let r = fit .right a in
+    let y : isPending (power (m .powers) core) ≡ true = rw z d in
+    let i : core < 8 = rw z (omega (arith, b, r .most-cores)) in
+    rw (← z) (
+      arrived-power (stateOf m) core y i (r .whole .powers-whole),
+      (arrived-turn (stateOf m) core y i (r .whole .turns-whole), arrived-numbers (stateOf m) core y i j (r .whole .saved-whole) h),
+    ))
+    (e .0) refl refl
+
 -- Each line is heeded.
 pub heeded : (m : Machine) → Fit m → (e : Event) → Heeded m e (next m e) (reply m e)
 unfolding performed
@@ -201,6 +224,7 @@ heeded m fit e =
           told-or-taken (reply m e)
           (λ why k. rw (refused-same m (e .0) (e .1) why k (λ z. call-not-told m e core is (rw z at k))))
           (λ t. rw (numbers m fit e core is t) (own-past (stateOf m) core (e .1) j (omega arith) (omega arith)));
+      arrived = λ core j is told h. arrival-leaves m fit e core is told j h;
       arrival-saved = λ core c u j is n.
           framed-by m (e .1) (λ (g : Frame) (o : Machine × Reply). e .0 ≡ g → saved (o .0 .saved) c u j ≡ saved (m .saved) c u j)
           (λ why k. refl) (λ g why d k. refl) (λ base pages cores a b k. refl) (λ lowest last kind number a b c k. refl) (λ lowest count to a b c k. refl)

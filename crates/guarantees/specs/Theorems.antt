@@ -5,7 +5,7 @@ use mathlib.Core.List.{List, [], _∷_, _++_, map}
 use mathlib.Core.Logic.{_⊎_, inl, inr}
 use Prim.Native.Nat.{ℕ}
 use native.Mathlib.Omega.{arith}
-use lib.ListN.{length}
+use lib.ListN.{length, length-map}
 use Rattle.identifiers.specs.Identifier.{admitted}
 use Rattle.ledger.specs.Ledger.{handler}
 use Rattle.ledger.specs.Only.{only}
@@ -118,14 +118,10 @@ unfolding answers replies texts
 said [] m = refl
 said (e ∷ rest) m = rw (said rest (next m e))
 
-read-all : (lines : List (List ℕ)) → length (map reading lines) ≡ length lines
-read-all [] = refl
-read-all (l ∷ rest) = rw (read-all rest)
-
 -- What is printed for any bytes is the answers to its lines in order, one for each line.
 pub printed-answers : (m : Machine) (input : List ℕ) → (printed m input ≡ texts (replies m (readings input))) × (length (replies m (readings input)) ≡ length (linesOf input))
 unfolding printed readings
-printed-answers m input = (said (readings input) m, replies-count m (readings input) ∙ read-all (linesOf input))
+printed-answers m input = (said (readings input) m, replies-count m (readings input) ∙ length-map (linesOf input) reading)
 
 -- Each answer has one of two shapes: a status, or what a call shows.
 pub answer-shape : (r : Reply) → Shape (textOf r)

@@ -108,9 +108,6 @@ module _ (s : List ℕ) (from to : ℕ) where
       pub carry-kept : (r ≤ 133) × (r ≤ length s)
       carry-kept = (omega (arith, kept), omega (arith, kept))
 
-      pub carry-size : length s′ ≡ length s
-      carry-size = rw front (length-fronted s from r inside)
-
       -- it has no newline where the whole had none
       pub carry-line : Unbroken (part s from to) → Unbroken (take r s′)
       carry-line u k b z =

@@ -145,7 +145,7 @@ module _ (l : List ℕ) where
       (passed _ _ _ _ (other 0x21 2 e) refl))))
 
 -- ---- the frame and the numbers
--- only a call has 132 digits
+-- a call has 132 digits
 module _ (l : List ℕ) where
   no-call-pick : (b : Bool) (f g : Frame) → isCall f ≡ false → isCall g ≡ false → isCall (pick b f g) ≡ false
   no-call-pick b f g p q = by (λ (t : Bool). isCall (pick t f g) ≡ false) b (λ e. rw (pick-yes true f g) p) (λ e. rw (pick-no false f g) q)

@@ -85,9 +85,6 @@ module _ (b : ℕ) where
       either (ltb b 103) (λ h. high (ltb-false _ _ g) (ltb-true _ _ h) (digit-high (ltb-false _ _ g) (ltb-true _ _ h))) (λ h.
       none (digit-above (ltb-false _ _ h))))))
 
-  pub digit-most : digitOf b ≤ 16
-  digit-most = byte-by (λ g h e. omega arith) (λ g h e. omega arith) (λ e. omega arith)
-
   -- a byte that is a digit is the sign of its value
   pub sign-digit : digitOf b < 16 → signOf (digitOf b) ≡ b
   sign-digit d =
@@ -97,31 +94,8 @@ module _ (b : ℕ) where
       (λ e. absurd (omega arith))
 
 module _ (d : ℕ) (h : d < 16) where
-  -- and a digit is the value of its sign
-  pub digit-sign : digitOf (signOf d) ≡ d
-  digit-sign =
-      either (ltb d 10)
-      (λ e.
-      let g : d < 10 = ltb-true _ _ e in
-      let k = sign-low d g in
-      digit-low (signOf d) (omega arith) (omega arith) ∙ omega arith)
-      (λ e.
-      let g : 10 ≤ d = ltb-false _ _ e in
-      let k = sign-high d g in
-      digit-high (signOf d) (omega arith) (omega arith) ∙ omega arith)
-
   pub sign-most : signOf d < 103
   sign-most =
       either (ltb d 10)
       (λ e. let g : d < 10 = ltb-true _ _ e in let k = sign-low d g in omega arith)
       (λ e. let g : 10 ≤ d = ltb-false _ _ e in let k = sign-high d g in omega arith)
-
--- ---- numbers of several digits
-module _ (l : List ℕ) (at : ℕ) where
-  -- the first m digits count as much more as the n behind them take
-  pub value-add : (m n : ℕ) → value l at (m + n) ≡ value l at m * 16 ^ n + value l (at + m) n
-  unfolding value
-  value-add m zero = rw add-zero (omega arith)
-  value-add m (suc n) =
-      let e : value l at m * 16 ^ suc n ≡ value l at m * 16 ^ n * 16 = rw pow-suc (sym (mul-assoc (value l at m) (16 ^ n) 16)) in
-      rw (add-suc m n, value-add m n, add-assoc at m n, e) (omega arith)

@@ -29,10 +29,6 @@ pub readings-none : readings [] ≡ []
 unfolding readings linesOf
 readings-none = refl
 
-pub readings-first : (l rest : List ℕ) → Unbroken l → readings (l ++ 10 ∷ rest) ≡ reading l ∷ readings rest
-unfolding readings
-readings-first l rest u = rw (lines-first l rest u)
-
 pub readings-last : (l : List ℕ) → Unbroken l → (length l ≡ 0 → ⊥) → readings l ≡ reading l ∷ []
 unfolding readings
 readings-last l u n = rw (lines-last l u n)

@@ -84,9 +84,6 @@ module _ (s : List ℕ) (at : ℕ) where
   pub end-from : at ≤ endOf s at
   end-from = is-first .low
 
-  pub end-to : at ≤ length s → endOf s at ≤ length s
-  end-to h = omega (arith, is-first .high)
-
   pub end-none : (k : ℕ) → at ≤ k → k < endOf s at → getD s k 0 ≡ 10 → ⊥
   end-none k g h = eqb-false _ _ (is-first .before k g h)
 

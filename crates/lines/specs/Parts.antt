@@ -38,7 +38,7 @@ unfinished-unbroken [] = refl
 unfinished-unbroken (b ∷ bs) = either (broken (b ∷ bs)) (λ y. rw y (unfinished-unbroken bs)) (λ n. rw n n)
 
 -- ---- the lines of the two parts are those of the input
--- bytes with a newline have a line
+-- a byte before the lines of some bytes leaves the lines behind them
 some-line : (b : ℕ) (bs : List ℕ) (rest : List (List ℕ)) (x : ℕ) → before x (linesOf (b ∷ bs) ++ rest) ≡ before x (linesOf (b ∷ bs)) ++ rest
 unfolding linesOf before pick
 some-line b bs rest x =

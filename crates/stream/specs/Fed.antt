@@ -154,7 +154,7 @@ module _ (s : List ℕ) where
       (λ g after xs e. let i = next-inside s [] xs (d .read) g after (sym e) in through-in n (stepped d g after xs) (omega arith))
       (nextOf s (d .read) []) refl)
 
--- A feed from the front prints what the whole input prints so far, and where the longest answer still fits it leaves nothing but a line without its newline.
+-- What a feed from the front prints, and then what is printed for the rest, is what is printed for all; and where the longest answer still fits it leaves nothing but a line without its newline.
 pub fed-feeds : (s : List ℕ) (m : Machine) (out : List ℕ) (m′ : Machine) (at′ done′ : ℕ) (out′ : List ℕ) → stand m′ at′ done′ out′ ≡ fed s (stand m 0 0 out)
     → Feeds s m 0 out 0 m′ at′ out′ done′ × Through s at′ out′ done′
 unfolding fed

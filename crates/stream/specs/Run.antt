@@ -154,5 +154,3 @@ module _ (s : List ℕ) (at : ℕ) (out : List ℕ) (done : ℕ) where
 
   pub through-line : (k : Next) (xs ys : List ℕ) → (k, ys) ≡ nextOf s at xs → k ≡ Unfinished → Through s at out done
   through-line k xs ys e is g = rest-unbroken s at (next-unfinished s xs ys at (rw is at e) .0)
-
-pub ruleset throughs = (through-full, through-end, through-line)
