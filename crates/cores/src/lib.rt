@@ -95,7 +95,7 @@ pub struct Arriving {
     pub power: Power,
 }
 
-// The arrival of a core by value, for callers that hold no record to lend.
+// The arrival of a core by value. A table of numbers holds no record that could be lent, so it is lent from here.
 pub fn arrival(p: Power) -> Arriving
     ensures { λ r. ⌜ r ≡ arrivalOf p ⌝ }
 {

@@ -3,6 +3,7 @@ use mathlib.Core.Path.{_≡_, refl, sym, ap, subst, _∙_}
 use mathlib.Core.List.{List, [], _∷_, _++_}
 use Prim.Native.Nat.{ℕ}
 use lib.ListN.{length}
+use Rattle.rules.specs.Agree.{agree}
 use Rattle.lines.specs.declared.Status.{Status}
 use Rattle.lines.specs.declared.Frame.{Frame}
 use Rattle.lines.specs.declared.Frame.the-variants as Frame
@@ -57,7 +58,7 @@ pub data Follows : Machine → Events → Machine → List Reply → Type 0 wher
 
 -- Two steps that the promise allows agree.
 pub allowed-agree : (m : Machine) (e : Event) (a b : Machine) (r q : Reply) → Allowed m e a r → Allowed m e b q → (a ≡ b) × (r ≡ q)
-allowed-agree m e a b r q h k = (ap (λ (o : Machine × Reply). o .0) (h ∙ sym k), ap (λ (o : Machine × Reply). o .1) (h ∙ sym k))
+allowed-agree m e a b r q h k = let z = agree {A = Machine × Reply} (a, r) (b, q) (framed m (e .0) (e .1)) h k in (ap (λ (o : Machine × Reply). o .0) z, ap (λ (o : Machine × Reply). o .1) z)
 
 -- A run that the promise allows ends in the one machine there is, with the one list of answers there is.
 pub follows-is : {m last : Machine} {run : Events} {answers : List Reply} → Follows m run last answers → (last ≡ ran m run) × (answers ≡ replies m run)

@@ -279,7 +279,7 @@ found s a key (Handler h) = byHandler s a key h
 abbrev pub calledBy : List ℕ → Parts
 calledBy xs = parts (identifierOf (getD xs 0 0))
 
--- of a call with these parts, arguments and key
+-- of a call with these parts, arguments and key. That Root makes no calls is tested first; its answer is the same as that of the next three
 unfoldable pub judgedBy : Sight → Parts → Args → ℕ → Judged
 judgedBy s p a key =
     tested

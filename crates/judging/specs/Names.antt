@@ -1,4 +1,4 @@
--- The worlds that call and the identifiers that are served, each named once.
+-- The worlds that call and the identifiers that are served, by their names here.
 use Prim.Native.Nat.{ℕ}
 
 abbrev pub secure : ℕ

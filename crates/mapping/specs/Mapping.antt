@@ -79,7 +79,7 @@ unfoldable pub without : List Mapping → ℕ → ℕ → List Mapping
 without [] v s = []
 without (m ∷ l) v s = pick (exact v s m) l (m ∷ without l v s)
 
--- where an address leads by the mapping that decides it
+-- where an address leads by the mapping that decides it; the sum is cut to 64 bits, which in the lists of a run cuts nothing (`lead-exact` in Once)
 unfoldable pub leading : ℕ → Option Mapping → Lead
 leading x none = Nowhere
 leading x (some m) = To ((m .phys + (x - m .virt)) % 2 ^ 64) (m .attr)

@@ -280,7 +280,7 @@ fn find(lists: &Lists, world: u64, q: Question) -> u64
     i
 }
 
-// The same for a physical range: it is asked at every transfer, so it has a loop in which the question is known.
+// The same for a physical range: every transfer that gets so far asks for it, so it has a loop in which the question is known.
 fn find_range(lists: &Lists, world: u64, start: u64, size: u64) -> u64
     ensures { λ r. ⌜ r ≡ found (now (lists .entry)) world (OnRange start size) ⌝ }
 {
@@ -348,7 +348,8 @@ pub fn release(lists: &mut Lists, world: u64, virt: u64, size: u64)
     store(lists, world, i, blank());
 }
 
-// Whether `count` pages from the address `start` on meet the physical range of a mapping of the world.
+// Whether `count` pages from the address `start` on meet the physical range of a mapping of the world. A count past any
+// window is for the promise alone, which holds of every count.
 pub fn meets_run(lists: &Lists, world: u64, start: u64, count: u64) -> bool
     ensures { λ r. ⌜ r ≡ meetsRun (held (now (lists .entry)) world) start count ⌝ }
 {
