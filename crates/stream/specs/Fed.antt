@@ -14,7 +14,7 @@ use Rattle.lines.specs.Input.{reading-of, Found, next-found, next-unfinished, n
 use Rattle.lines.specs.declared.Frame.{Frame}
 use Rattle.lines.specs.declared.Next.{Next}
 use Rattle.lines.specs.declared.Next.the-variants.{Line, Unfinished}
-use Rattle.text.specs.Text.{put}
+use Rattle.rules.specs.Laid.{put}
 use Rattle.frames.specs.Frames.{Machine, framed}
 use Rattle.frames.specs.declared.Reply.{Reply}
 use Rattle.stream.specs.Run.{textOf, answered, numbers-idle, Feeds, Through, feeds-none, feeds-more, through-full, through-end, through-line}

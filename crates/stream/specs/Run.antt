@@ -15,7 +15,8 @@ use Rattle.lines.specs.declared.Frame.the-variants as Frame
 use Rattle.lines.specs.declared.Next.{Next}
 use Rattle.lines.specs.declared.Status.{Status}
 use Rattle.lines.specs.declared.Next.the-variants.{Line, Unfinished}
-use Rattle.text.specs.Text.{statusText, callText, length-status, length-call, put, laid, put-fits, put-take, length-laid}
+use Rattle.rules.specs.Laid.{put, laid, put-fits, put-take, length-laid}
+use Rattle.text.specs.Text.{statusText, callText, length-status, length-call}
 use Rattle.frames.specs.Frames.{Machine, machine, framed}
 use Rattle.frames.specs.declared.Reply.{Reply}
 use Rattle.frames.specs.declared.Reply.the-variants.{Told, Called}

@@ -1,6 +1,6 @@
 // The run over any bytes: each complete line of a chunk is answered, and what is unfinished waits for more.
 ghost use mathlib.Core.Path.{_≡_};
-ghost use Rattle.text.specs.Text.{put};
+ghost use Rattle.rules.specs.Laid.{put};
 ghost use Rattle.frames.specs.Frames.{machine};
 ghost use Rattle.stream.specs.Run.{textOf, answered};
 ghost use Rattle.stream.specs.Fed.{stand, fed};

@@ -8,7 +8,8 @@ use lib.ListN.{length, getD, replicate}
 use Rattle.lines.specs.Hex.{signOf, sign-low, sign-high, sign-most}
 use Rattle.lines.specs.Rows.{Row}
 use Rattle.lines.specs.Packed.{turn, quotient, rest, turn-two, turn-four, turn-eight}
-use Rattle.text.specs.Text.{inHex, shownText, laid, laid-append, length-laid}
+use Rattle.rules.specs.Laid.{laid, laid-append, length-laid}
+use Rattle.text.specs.Text.{inHex, shownText}
 
 -- two bytes of a number, the lowest first; four of them; eight of them
 abbrev pub twoOf : ℕ → List ℕ

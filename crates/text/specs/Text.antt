@@ -6,12 +6,13 @@ use Prim.Native.Nat.{ℕ, zero, suc, _+_, _-_, _/_, _%_, _≤_, _<_}
 use native.Mathlib.Nat.{add-zero}
 use native.Mathlib.Numerals.{add-one}
 use native.Mathlib.Omega.{arith}
-use lib.Dec.{leb, eqb}
-use lib.ListN.{length, getD, take, drop, set, length-append, length-set}
-use lib.Seq.{sets, sets-eq, set-comm, take-at, length-take-le, length-sets}
-use borrow.Author.Tests.{le-leb, lt-leb, eqb-true}
-use Rattle.rules.specs.Choice.{pick, picked, passed}
+use lib.Dec.{eqb}
+use lib.ListN.{length, getD, set, length-append, length-set}
+use lib.Seq.{sets, set-comm}
+use borrow.Author.Tests.{eqb-true}
+use Rattle.rules.specs.Choice.{pick}
 use Rattle.rules.specs.Search.{all, all-at}
+use Rattle.rules.specs.Laid.{laid, put, then, put-fits, put-not}
 use Rattle.lines.specs.Hex.{signOf}
 use Rattle.lines.specs.Frame.{statusByte}
 use Rattle.lines.specs.declared.Status.{Status}
@@ -35,14 +36,6 @@ shownText x0 x1 x2 x3 = inHex 16 x0 ++ (inHex 16 x1 ++ (inHex 16 x2 ++ inHex 16 
 
 unfoldable pub callText : ℕ → ℕ → ℕ → ℕ → ℕ → ℕ → List ℕ
 callText core world x0 x1 x2 x3 = headText core world ++ (shownText x0 x1 x2 x3 ++ (10 ∷ []))
-
--- bytes with others laid over them from a place on
-unfoldable pub laid : List ℕ → ℕ → List ℕ → List ℕ
-laid out at text = sets out at text
-
--- a text put at a place, and the place behind it; where it does not fit nothing is written
-unfoldable pub put : List ℕ → ℕ → List ℕ → ℕ × List ℕ
-put out at text = pick (leb (at + length text) (length out)) (at + length text, laid out at text) (at, out)
 
 -- a table of the signs of the sixteen digits
 pub record Signs (t : List ℕ) : Type 0 where
@@ -97,24 +90,6 @@ module _ (out₀ out : List ℕ) (at n x k y : ℕ) (d : Digits out₀ out at n 
   unfolding inHex laid
   digits-none h = let z : 0 ≡ k = omega arith in ap (λ (j : ℕ). sets out at (inHex j y)) z ∙ d .left
 
--- ---- one text after another
-pub laid-one : (out : List ℕ) (at a : ℕ) → set out at a ≡ laid out at (a ∷ [])
-unfolding laid
-laid-one out at a = refl
-
-pub length-laid : (out : List ℕ) (at : ℕ) (text : List ℕ) → length (laid out at text) ≡ length out
-unfolding laid
-length-laid out at text = length-sets out at text
-
-pub laid-append : (vs ws l : List ℕ) (i : ℕ) → laid (laid l i vs) (i + length vs) ws ≡ laid l i (vs ++ ws)
-unfolding laid
-laid-append [] ws l i = rw add-zero
-laid-append (v ∷ vs) ws l i = let e : i + suc (length vs) ≡ suc i + length vs = omega arith in rw e (laid-append vs ws (set l i v) (suc i))
-
--- ws laid behind vs
-then : (o o′ p vs ws : List ℕ) (i k n : ℕ) → length vs ≡ n → k ≡ i + n → o′ ≡ laid o i vs → p ≡ laid o′ k ws → p ≡ laid o i (vs ++ ws)
-then o o′ p vs ws i k n h g e f = let z : k ≡ i + length vs = omega arith in f ∙ rw (e, z) (laid-append vs ws o i)
-
 module _ (o o₁ o₂ o₃ : List ℕ) (at : ℕ) where
   pub head-put :
       (core world : ℕ) → o₁ ≡ laid o at (inHex 2 0xa1) → o₂ ≡ laid o₁ (at + 2) (inHex 2 core) → o₃ ≡ laid o₂ (at + 4) (inHex 2 world) →
@@ -122,6 +97,7 @@ module _ (o o₁ o₂ o₃ : List ℕ) (at : ℕ) where
   unfolding headText
   head-put core world a b c = then _ _ _ _ _ _ _ 2 (length-hex 2 0xa1) refl a (then _ _ _ _ _ _ _ 2 (length-hex 2 core) (omega arith) b c)
 
+-- ---- a whole answer, put or not
 pub length-status : (s : Status) → length (statusText s) ≡ 5
 unfolding statusText
 length-status s = simp (length-append, length-hex)
@@ -137,23 +113,6 @@ length-shown x0 x1 x2 x3 = simp (length-append, length-hex)
 pub length-call : (core world x0 x1 x2 x3 : ℕ) → length (callText core world x0 x1 x2 x3) ≡ 71
 unfolding callText
 length-call core world x0 x1 x2 x3 = simp (length-append, length-head, length-shown)
-
--- ---- a whole answer, put or not
-module _ (o : List ℕ) (at : ℕ) (text : List ℕ) (n : ℕ) (e : length text ≡ n) where
-  pub put-fits : (p : List ℕ) → at + n ≤ length o → p ≡ laid o at text → (at + n, p) ≡ put o at text
-  unfolding put
-  put-fits p h f = picked _ _ _ _ (le-leb (at + length text) (length o) (omega arith)) (rw (e, f))
-
-  pub put-not : length o < at + n → (at, o) ≡ put o at text
-  unfolding put
-  put-not h = passed _ _ _ _ (lt-leb (at + length text) (length o) (omega arith)) refl
-
-  -- the bytes before it, and it
-  pub put-take : at + n ≤ length o → take (at + n) (laid o at text) ≡ take at o ++ text
-  unfolding laid
-  put-take h =
-      let g : length (take at o ++ text) ≡ at + n = length-append (take at o) text ∙ rw (length-take-le at o (omega arith), e) in
-      rw (sets-eq text o at (omega arith)) (take-at (take at o ++ text) (drop (at + length text) o) (at + n) g)
 
 module _ (o o₁ o₂ o₃ : List ℕ) (at : ℕ) where
   pub status-put :

@@ -7,7 +7,8 @@ ghost use lib.ListN.{length};
 ghost use Rattle.lines.specs.Hex.{signOf};
 ghost use Rattle.lines.specs.Rows.{Row};
 ghost use Rattle.lines.specs.Frame.{statusByte};
-ghost use Rattle.text.specs.Text.{Signs, inHex, headText, shownText, statusText, callText, laid, put};
+ghost use Rattle.rules.specs.Laid.{laid, put};
+ghost use Rattle.text.specs.Text.{Signs, inHex, headText, shownText, statusText, callText};
 ghost use Rattle.text.specs.Many.{twoOf, fourOf, eightOf, fourNumbers, signPair, signsAt, twoAt, fourFrom, fourAt, eights};
 
 // The size of each answer, a status and a call.

@@ -1,6 +1,6 @@
 -- `text::put_byte` meets its promise: it is one byte.
 use borrow.Author.Needs.{needs}
-use Rattle.text.specs.Text.{laid-one}
+use Rattle.rules.specs.Laid.{laid-one}
 use Rattle.text.proofs.put_byte.Statement.{statement}
 use Rattle.text.proofs.put_byte.Tie as tie
 

@@ -1,6 +1,6 @@
 -- `text::put_end` meets its promise: a newline is one byte.
 use borrow.Author.Needs.{needs}
-use Rattle.text.specs.Text.{laid-one}
+use Rattle.rules.specs.Laid.{laid-one}
 use Rattle.text.proofs.put_end.Statement.{statement}
 use Rattle.text.proofs.put_end.Tie as tie
 
