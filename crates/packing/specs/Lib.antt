@@ -1,0 +1,4 @@
+pub mod Packed
+pub mod Laying
+pub mod Writing
+pub mod Weighing
