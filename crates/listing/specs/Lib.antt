@@ -1,0 +1,8 @@
+pub mod Pieces
+pub mod Identifiers
+pub mod Names
+pub mod Rows
+pub mod Decimal
+pub mod Line
+pub mod Whole
+pub mod Cases
