@@ -1,6 +1,6 @@
 -- Each arm of `by_handler` is reached by the handler that `byHandler` picks it for.
 use borrow.Author.Needs.{needs}
-use Rattle.judging.specs.Judge.{byHandler}
+use Rattle.judgements.specs.Judge.{byHandler}
 use Rattle.rules.specs.Tests.{contraries}
 use Rattle.judging.proofs.by_handler.Statement.{statement}
 use Rattle.judging.proofs.by_handler.Tie as tie

@@ -1,6 +1,6 @@
 -- Each return of `judge_parts` stands where a test of `judgedBy` led to it, in the same order.
 use borrow.Author.Needs.{needs}
-use Rattle.judging.specs.Judge.{judgedBy}
+use Rattle.judgements.specs.Judge.{judgedBy}
 use Rattle.judging.specs.Laws.{lookups}
 use Rattle.judging.proofs.judge_parts.Statement.{statement}
 use Rattle.judging.proofs.judge_parts.Tie as tie

@@ -1,5 +1,5 @@
 -- Each arm of `may_call` knows which number it has, so where the list has it.
-use Rattle.judging.specs.Laws.{keys}
+use Rattle.judgements.specs.Laws.{keys}
 use Rattle.judging.proofs.may_call.Statement.{statement}
 use Rattle.judging.proofs.may_call.Tie as tie
 

@@ -1,6 +1,6 @@
 -- Each argument is what the promise of `argument` says of its number, as `argsOf` lists them.
 use borrow.Author.Needs.{needs}
-use Rattle.judging.specs.Judge.{argsOf}
+use Rattle.judgements.specs.Judge.{argsOf}
 use Rattle.judging.proofs.read_args.Statement.{statement}
 use Rattle.judging.proofs.read_args.Tie as tie
 

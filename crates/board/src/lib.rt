@@ -1,0 +1,114 @@
+// Handler 1: the board's own calls.
+ghost use mathlib.Core.Path.{_≡_};
+ghost use Rattle.mapping.specs.Lists.{held};
+ghost use Rattle.pages.specs.Window.{pageOf};
+ghost use Rattle.cores.specs.Cores.{onCount};
+ghost use Rattle.mapping.specs.Mapping.{mapVerdict, leadOf};
+ghost use Rattle.judgements.specs.Names.{normal};
+ghost use Rattle.judgements.specs.Judge.{granted, viewed, wanted, owning, mapping as mappingBy, unmapping, leading, board};
+use cores::Powers;
+use judgements::Answer;
+use judgements::Args;
+use judgements::Deed;
+use judgements::Judged;
+use judgements::Seen;
+use judgements::grant;
+use judgements::names;
+use judgements::refuse;
+use mapping::Lead;
+use mapping::Lists;
+use mapping::Mapping;
+use mapping::Verdict;
+use page_calls::give_pages;
+use page_calls::take_pages;
+use pages::Owners;
+use pages::Place;
+use rules::Reason;
+
+// Whether an address lies in a page of the caller's.
+fn own_page(v: Seen, owners: &Owners, a: Args) -> Judged
+    ensures { λ r. ⌜ r ≡ owning (now (owners .entry)) (pageOf (v .window) (a .x1)) (v .caller) ⌝ }
+{
+    let w = v.window;
+    let Place::Page(page) = w.page_of(a.x1) else {
+        return refuse(Reason::Invalid);
+    };
+    grant(
+        Answer::Owns(pages::owner_of(owners, page) == v.caller),
+        Deed::Nothing,
+    )
+}
+
+// Maps physical x1 at virtual x2, size x3, attributes x4.
+fn map_pages(v: Seen, owners: &Owners, lists: &Lists, a: Args) -> Judged
+    ensures { λ r. ⌜ r ≡ mappingBy (mapVerdict (held (now (lists .entry)) (v .caller)) (now (owners .entry)) (v .window) (v .caller) (wanted a)) (wanted a) ⌝ }
+{
+    let m = Mapping {
+        virt: a.x2,
+        phys: a.x1,
+        size: a.x3,
+        attr: a.x4,
+    };
+    let w = v.window;
+    match mapping::judge_map(lists, owners, w, v.caller, m) {
+        Verdict::Granted => grant(Answer::Done, Deed::Map(m)),
+        Verdict::Nothing => grant(Answer::Done, Deed::Nothing),
+        Verdict::No(r) => refuse(r),
+    }
+}
+
+// Unmaps what the caller holds with exactly this start and size.
+fn unmap_pages(v: Seen, lists: &Lists, a: Args) -> Judged
+    ensures { λ r. ⌜ r ≡ unmapping (held (now (lists .entry)) (v .caller)) a ⌝ }
+{
+    if !mapping::has(lists, v.caller, a.x1, a.x2) {
+        return refuse(Reason::NoMapping);
+    }
+    grant(
+        Answer::Done,
+        Deed::Unmap {
+            virt: a.x1,
+            size: a.x2,
+        },
+    )
+}
+
+// Where an address of the caller leads.
+fn where_leads(v: Seen, lists: &Lists, a: Args) -> Judged
+    ensures { λ r. ⌜ r ≡ leading (leadOf (held (now (lists .entry)) (v .caller)) (a .x1)) ⌝ }
+{
+    match mapping::lead_of(lists, v.caller, a.x1) {
+        Lead::To { phys, attr } => grant(Answer::Leads { phys, attr }, Deed::Nothing),
+        Lead::Nowhere => refuse(Reason::Nowhere),
+    }
+}
+
+// How many cores are ON.
+fn count_on(powers: &Powers) -> Judged
+    ensures { λ r. ⌜ r ≡ granted (Answer.Count (onCount (now (powers .entry)))) Deed.Nothing ⌝ }
+{
+    grant(Answer::Count(cores::on_count(powers)), Deed::Nothing)
+}
+
+// A call that reaches handler 1.
+pub fn board_call(
+    v: Seen,
+    powers: &Powers,
+    owners: &Owners,
+    lists: &Lists,
+    a: Args,
+    key: u32,
+) -> Judged
+    ensures { λ r. ⌜ r ≡ board (viewed v (now (powers .entry)) (now (owners .entry)) (held (now (lists .entry)) (v .caller)) (held (now (lists .entry)) normal)) a key ⌝ }
+{
+    match key {
+        names::TAKE_PAGES => take_pages(v, owners, lists, a),
+        names::GIVE_PAGES => give_pages(v, owners, lists, a),
+        names::OWNS_PAGE => own_page(v, owners, a),
+        names::MAP_PAGES => map_pages(v, owners, lists, a),
+        names::UNMAP_PAGES => unmap_pages(v, lists, a),
+        names::WHERE_LEADS => where_leads(v, lists, a),
+        names::COUNT_ON => count_on(powers),
+        _ => refuse(Reason::Unserved),
+    }
+}

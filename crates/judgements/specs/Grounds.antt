@@ -1,0 +1,292 @@
+-- What a granted deed stands on, whatever the call: one law over every judgement, by which the theorems over runs go.
+use mathlib.Core.Path.{_≡_, refl, sym, subst}
+use mathlib.Core.Bool.{Bool, true, false, not, _||_}
+use mathlib.Core.List.{List}
+use mathlib.Core.Logic.{_⊎_, inl, inr}
+use Prim.Native.Nat.{ℕ, _<_}
+use native.Mathlib.Omega.{arith}
+use lib.Dec.{eqb}
+use borrow.Author.Tests.{eqb-true, leb-false, not-false}
+use Rattle.rules.specs.Choice.{chosen, either, yes-or-no}
+use Rattle.rules.specs.Tests.{Test, sieved, Clear}
+use Rattle.rules.specs.declared.Reason.{Reason}
+use Rattle.rules.specs.declared.Reason.the-variants as Reason
+use Rattle.ledger.specs.declared.Lookup.{Lookup}
+use Rattle.ledger.specs.declared.Lookup.the-variants.{Handler, Nobody}
+use Rattle.cores.specs.Power.{isOn, isPending}
+use Rattle.cores.specs.Cores.{power}
+use Rattle.pages.specs.declared.Place.{Place}
+use Rattle.pages.specs.declared.Place.the-variants.{Page, Outside}
+use Rattle.mapping.specs.Mapping.{mapVerdict, hasExactly}
+use Rattle.mapping.specs.declared.Mapping.{Mapping}
+use Rattle.mapping.specs.declared.Verdict.{Verdict}
+use Rattle.mapping.specs.declared.Verdict.the-variants as Verdict
+use Rattle.mapping.specs.declared.Lead.{Lead}
+use Rattle.mapping.specs.declared.Lead.the-variants as Lead
+use Rattle.transfers.specs.Transfer.{moveVerdict, severalVerdict}
+use Rattle.transfers.specs.Kept.{several-granted}
+use Rattle.transfers.specs.declared.Verdict.{Verdict as Moving}
+use Rattle.transfers.specs.declared.Verdict.the-variants as Moving
+use Rattle.judgements.specs.Names.{secure, normal, realm}
+use Rattle.judgements.specs.declared.Answer.{Answer}
+use Rattle.judgements.specs.declared.Answer.the-variants as Answer
+use Rattle.judgements.specs.declared.Deed.{Deed}
+use Rattle.judgements.specs.declared.Deed.the-variants.{Nothing, Move, Map, Unmap, Start, Stop, HandOver, Finish}
+use Rattle.judgements.specs.declared.Judged.{Judged}
+use Rattle.judgements.specs.declared.Args.{Args}
+use Rattle.judgements.specs.Judge.{View, Sight, denied, granted, tested, oneOf, takers, callers, goodStart, wanted, affirmed, featuring, architecture, starting, stating, stopping, versioning, powering, moving, granuleIn, granuleOut, taking, giving, owning, mapping, unmapping, leading, board, handing, finishing, ranged, realms, standard, trusted, byHandler, found, judgedBy, judged}
+
+-- Secure or Realm
+abbrev pub Takes : ℕ → Type 0
+Takes world = (world ≡ secure) ⊎ (world ≡ realm)
+
+-- a world that may call
+abbrev pub Calls : ℕ → Type 0
+Calls world = (world ≡ normal) ⊎ Takes world
+
+-- a transfer's giver and taker: Normal and the caller, or the caller and Normal, with the giver's list
+pub data Between (s : View) : ℕ → ℕ → List Mapping → Type 0 where
+  toCaller : Between s normal (s .seen .caller) (s .theirs)
+  toNormal : Between s (s .seen .caller) normal (s .own)
+
+-- a page transfer that is granted
+pub record Moves (s : View) (start count to : ℕ) : Type 0 where
+  pub from : ℕ
+  pub list : List Mapping
+  pub between : Between s from to list
+  pub some : 0 < count
+  pub caller : Takes (s .seen .caller)
+  pub verdict : moveVerdict (s .seen .window) (s .owners) list from start count ≡ Moving.Granted
+
+-- a mapping that is granted
+pub record Maps (s : View) (m : Mapping) : Type 0 where
+  pub caller : Calls (s .seen .caller)
+  pub verdict : mapVerdict (s .own) (s .owners) (s .seen .window) (s .seen .caller) m ≡ Verdict.Granted
+
+-- a mapping of this start and size that the caller holds
+pub record Unmaps (s : View) (virt size : ℕ) : Type 0 where
+  pub caller : Calls (s .seen .caller)
+  pub holds : hasExactly (s .own) virt size ≡ true
+
+-- a core of the board that is OFF, and an address to start it at
+pub record Starts (s : View) (core start : ℕ) : Type 0 where
+  pub caller : s .seen .caller ≡ normal
+  pub exists : core < s .seen .cores
+  pub good : goodStart (s .seen .window) (s .owners) start ≡ true
+  pub not-on : isOn (power (s .powers) core) ≡ false
+  pub not-pending : isPending (power (s .powers) core) ≡ false
+
+-- what each deed stands on
+abbrev pub Grounds : View → Deed → Type 0
+Grounds s Nothing = Unit {0}
+Grounds s (Move start count to) = Moves s start count to
+Grounds s (Map m) = Maps s m
+Grounds s (Unmap virt size) = Unmaps s virt size
+Grounds s (Start core start context) = Starts s core start
+Grounds s Stop = s .seen .caller ≡ normal
+Grounds s (HandOver to) = (s .seen .caller ≡ normal) × Takes to
+Grounds s Finish = Takes (s .seen .caller) × (s .seen .is_open ≡ true)
+
+-- a refusal does nothing, and what is done has its grounds
+pub record Grounded (s : View) (j : Judged) : Type 0 where
+  pub quiet : (r : Reason) → j .answer ≡ Answer.No r → j .deed ≡ Nothing
+  pub stands : Grounds s (j .deed)
+
+-- ---- the plain outcomes
+module _ (s : View) where
+  refusing : (r : Reason) → Grounded s (denied r)
+  refusing r = record { quiet = λ q e. refl; stands = tt }
+
+  answering : (a : Answer) → Grounded s (granted a Nothing)
+  answering a = record { quiet = λ q e. refl; stands = tt }
+
+  doing : (d : Deed) → Grounds s d → Grounded s (granted Answer.Done d)
+  doing d g = record { quiet = λ q (e : Answer.Done ≡ Answer.No q). cc; stands = g }
+
+  passing : (d : Deed) → Grounds s d → Grounded s (granted Answer.Silent d)
+  passing d g = record { quiet = λ q (e : Answer.Silent ≡ Answer.No q). cc; stands = g }
+
+  -- tests before a judgement: it is grounded where none of them holds
+  testing : (ts : List (Test Reason)) (j : Judged) → (Clear ts → Grounded s j) → Grounded s (tested ts j)
+  testing ts j g = sieved (Grounded s) denied ts j refusing g
+
+-- ---- what the tests of the caller leave
+is-world : (a b : ℕ) → not (eqb a b) ≡ false → a ≡ b
+is-world a b e = eqb-true a b (not-false (eqb a b) e)
+
+is-taker : (w : ℕ) → not (oneOf w takers) ≡ false → Takes w
+unfolding oneOf
+is-taker w e =
+    either (eqb w secure) (λ y. inl (eqb-true w secure y))
+    (λ n. either (eqb w realm) (λ y. inr (eqb-true w realm y))
+    (λ m. let z : not (eqb w secure || (eqb w realm || false)) ≡ true = rw (n, m) in absurd (yes-or-no _ z e)))
+
+is-caller : (w : ℕ) → not (oneOf w callers) ≡ false → Calls w
+unfolding oneOf
+is-caller w e =
+    either (eqb w normal) (λ y. inl (eqb-true w normal y))
+    (λ n. either (eqb w secure) (λ y. inr (inl (eqb-true w secure y)))
+    (λ m. either (eqb w realm) (λ y. inr (inr (eqb-true w realm y)))
+    (λ k. let z : not (eqb w secure || (eqb w normal || (eqb w realm || false))) ≡ true = rw (m, n, k) in absurd (yes-or-no _ z e))))
+
+-- ---- each call
+module _ (s : View) (a : Args) where
+  affirming : (b : Bool) → Grounded s (affirmed b)
+  unfolding affirmed
+  affirming b = chosen (Grounded s) b _ _ (λ e. answering s Answer.Done) (λ e. refusing s Reason.Unserved)
+
+  architectures : (key : ℕ) → Grounded s (architecture a key)
+  unfolding architecture featuring
+  architectures key =
+      chosen (Grounded s) _ _ _ (λ e. answering s Answer.Version)
+      (λ e. chosen (Grounded s) _ _ _ (λ f. affirming _) (λ f. refusing s Reason.Unserved))
+
+  starts : Grounded s (starting (s .seen) (s .powers) (s .owners) a)
+  unfolding starting Clear
+  starts =
+      testing s _ _ (λ c. doing s (Start (a .x1) (a .x2) (a .x3)) (record {
+        caller = is-world (s .seen .caller) normal (c .0);
+        exists = leb-false (s .seen .cores) (a .x1) (c .1 .0);
+        good = not-false _ (c .1 .1 .0);
+        not-on = c .1 .1 .1 .0;
+        not-pending = c .1 .1 .1 .1 .0;
+      }))
+
+  states : Grounded s (stating (s .seen) (s .powers) a)
+  unfolding stating
+  states = testing s _ _ (λ c. answering s _)
+
+  stops : Grounded s (stopping (s .seen))
+  unfolding stopping Clear
+  stops = testing s _ _ (λ c. passing s Stop (is-world (s .seen .caller) normal (c .0)))
+
+  versions : Grounded s (versioning (s .seen))
+  unfolding versioning
+  versions = testing s _ _ (λ c. answering s _)
+
+  powers : Grounded s (powering (s .seen) a)
+  unfolding powering
+  powers = testing s _ _ (λ c. affirming _)
+
+  transfers : (v : Moving) (start count to : ℕ) → (v ≡ Moving.Granted → Moves s start count to) → Grounded s (moving v start count to)
+  unfolding moving
+  transfers Moving.Granted start count to g = doing s (Move start count to) (g refl)
+  transfers (Moving.No r) start count to g = refusing s r
+
+  granules-in : Grounded s (granuleIn (s .seen) (s .owners) (s .theirs) a)
+  unfolding granuleIn Clear
+  granules-in =
+      testing s _ _ (λ c. let e : s .seen .caller ≡ realm = is-world (s .seen .caller) realm (c .0) in
+      transfers _ _ _ _ (λ v. subst (λ (to : ℕ). Moves s (a .x1) 1 to) e (record { from = normal; list = s .theirs; between = toCaller; some = omega arith; caller = inr e; verdict = v })))
+
+  granules-out : Grounded s (granuleOut (s .seen) (s .owners) (s .own) a)
+  unfolding granuleOut Clear
+  granules-out =
+      testing s _ _ (λ c. transfers _ _ _ _ (λ v.
+      record { from = s .seen .caller; list = s .own; between = toNormal; some = omega arith; caller = inr (is-world (s .seen .caller) realm (c .0)); verdict = v }))
+
+  -- a grant of several pages is one of pages, and of at least one
+  several : {from to : ℕ} {list : List Mapping} → Between s from to list → Takes (s .seen .caller)
+      → severalVerdict (s .seen .window) (s .owners) list from (a .x1) (a .x2) ≡ Moving.Granted → Moves s (a .x1) (a .x2) to
+  several {from} {to} {list} b t v =
+      let g = several-granted (s .seen .window) (s .owners) list from (a .x1) (a .x2) v in
+      let n : a .x2 ≡ 0 → ⊥ = g .1 in
+      record { from = from; list = list; between = b; some = omega arith; caller = t; verdict = g .0 }
+
+  takings : Grounded s (taking (s .seen) (s .owners) (s .theirs) a)
+  unfolding taking Clear
+  takings = testing s _ _ (λ c. transfers _ _ _ _ (λ v. several toCaller (is-taker (s .seen .caller) (c .0)) v))
+
+  givings : Grounded s (giving (s .seen) (s .owners) (s .own) a)
+  unfolding giving Clear
+  givings = testing s _ _ (λ c. transfers _ _ _ _ (λ v. several toNormal (is-taker (s .seen .caller) (c .0)) v))
+
+  questions : (o : List ℕ) (p : Place) (world : ℕ) → Grounded s (owning o p world)
+  unfolding owning
+  questions o (Page page) world = answering s _
+  questions o Outside world = refusing s Reason.Invalid
+
+  leads : (l : Lead) → Grounded s (leading l)
+  unfolding leading
+  leads (Lead.To phys attr) = answering s _
+  leads Lead.Nowhere = refusing s Reason.Nowhere
+
+  mappings : (v : Verdict) (m : Mapping) → (v ≡ Verdict.Granted → Maps s m) → Grounded s (mapping v m)
+  unfolding mapping
+  mappings Verdict.Granted m g = doing s (Map m) (g refl)
+  mappings Verdict.Nothing m g = answering s _
+  mappings (Verdict.No r) m g = refusing s r
+
+  hands : (to : ℕ) → Takes to → Grounded s (handing to (s .seen))
+  unfolding handing Clear
+  hands to t = testing s _ _ (λ c. passing s (HandOver to) (is-world (s .seen .caller) normal (c .0), t))
+
+  finishes : (from : ℕ) → Takes from → Grounded s (finishing from (s .seen))
+  unfolding finishing Clear
+  finishes from t =
+      testing s _ _ (λ c. passing s Finish (subst (λ (w : ℕ). Takes w) (sym (is-world (s .seen .caller) from (c .0))) t, not-false _ (c .1 .0)))
+
+  range : (key : ℕ) → Grounded s (ranged (s .seen) key)
+  unfolding ranged
+  range key = testing s _ _ (λ c. hands realm (inr refl))
+
+  trust : (key : ℕ) → Grounded s (trusted (s .seen) key)
+  unfolding trusted
+  trust key = chosen (Grounded s) _ _ _ (λ e. finishes secure (inl refl)) (λ e. hands secure (inl refl))
+
+  realm-calls : (key : ℕ) → Grounded s (realms (s .seen) (s .owners) (s .own) (s .theirs) a key)
+  unfolding realms
+  realm-calls key =
+      chosen (Grounded s) _ _ _ (λ e. granules-in)
+      (λ e. chosen (Grounded s) _ _ _ (λ e. granules-out)
+      (λ e. chosen (Grounded s) _ _ _ (λ e. finishes realm (inr refl))
+      (λ e. range key)))
+
+  standards : (key : ℕ) → Grounded s (standard s a key)
+  unfolding standard
+  standards key =
+      chosen (Grounded s) _ _ _ (λ e. versions)
+      (λ e. chosen (Grounded s) _ _ _ (λ e. stops)
+      (λ e. chosen (Grounded s) _ _ _ (λ e. starts)
+      (λ e. chosen (Grounded s) _ _ _ (λ e. starts)
+      (λ e. chosen (Grounded s) _ _ _ (λ e. states)
+      (λ e. chosen (Grounded s) _ _ _ (λ e. states)
+      (λ e. chosen (Grounded s) _ _ _ (λ e. powers)
+      (λ e. realm-calls key)))))))
+
+  -- ---- the calls that any world makes, and so the whole judgement
+  module _ (may : Calls (s .seen .caller)) where
+    unmappings : Grounded s (unmapping (s .own) a)
+    unfolding unmapping Clear
+    unmappings = testing s _ _ (λ c. doing s (Unmap (a .x1) (a .x2)) (record { caller = may; holds = not-false _ (c .0) }))
+
+    boards : (key : ℕ) → Grounded s (board s a key)
+    unfolding board
+    boards key =
+        chosen (Grounded s) _ _ _ (λ e. takings)
+        (λ e. chosen (Grounded s) _ _ _ (λ e. givings)
+        (λ e. chosen (Grounded s) _ _ _ (λ e. questions _ _ _)
+        (λ e. chosen (Grounded s) _ _ _ (λ e. mappings _ (wanted a) (λ v. record { caller = may; verdict = v }))
+        (λ e. chosen (Grounded s) _ _ _ (λ e. unmappings)
+        (λ e. chosen (Grounded s) _ _ _ (λ e. leads _)
+        (λ e. chosen (Grounded s) _ _ _ (λ e. answering s _)
+        (λ e. refusing s Reason.Unserved)))))))
+
+    handlers : (key h : ℕ) → Grounded s (byHandler s a key h)
+    unfolding byHandler
+    handlers key h =
+        chosen (Grounded s) _ _ _ (λ e. architectures key)
+        (λ e. chosen (Grounded s) _ _ _ (λ e. boards key)
+        (λ e. chosen (Grounded s) _ _ _ (λ e. standards key)
+        (λ e. chosen (Grounded s) _ _ _ (λ e. trust key)
+        (λ e. refusing s Reason.Unserved))))
+
+    lookups : (key : ℕ) (l : Lookup) → Grounded s (found s a key l)
+    unfolding found
+    lookups key Nobody = refusing s Reason.Unserved
+    lookups key (Handler h) = handlers key h
+
+-- every judgement is grounded
+pub grounded : (s : Sight) (xs : List ℕ) → Grounded (s .view) (judged s xs)
+unfolding judged judgedBy Clear
+grounded s xs = testing (s .view) _ _ (λ c. lookups (s .view) _ (is-caller (s .view .seen .caller) (c .0)) _ _)

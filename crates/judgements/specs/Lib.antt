@@ -1,0 +1,5 @@
+pub mod Names
+pub mod Judge
+pub mod Laws
+pub mod Grounds
+pub mod Asked

@@ -1,0 +1,27 @@
+-- What a transfer's verdict makes of the call: one law a verdict.
+use mathlib.Core.Path.{_≡_}
+use Prim.Native.Nat.{ℕ}
+use Rattle.rules.specs.declared.Reason.{Reason}
+use Rattle.rules.specs.Tests.{contraries}
+use Rattle.transfers.specs.declared.Verdict.{Verdict as Moving}
+use Rattle.transfers.specs.declared.Verdict.the-variants as Moving
+use Rattle.judgements.specs.declared.Answer.the-variants as Answer
+use Rattle.judgements.specs.declared.Deed.the-variants as Deed
+use Rattle.judgements.specs.declared.Judged.{Judged}
+use Rattle.judgements.specs.Judge.{denied, granted, moving}
+
+module _ (l : Moving) (start count to : ℕ) (r : Judged) where
+  pub moved-by : (k : Moving) → k ≡ l → r ≡ moving k start count to → r ≡ moving l start count to
+  moved-by k same h = rw (← same) h
+
+  pub move-granted : l ≡ Moving.Granted → r ≡ granted Answer.Done (Deed.Move start count to) → r ≡ moving l start count to
+  unfolding moving
+  move-granted e h = rw e h
+
+  pub move-no : (q : Reason) → l ≡ Moving.No q → r ≡ denied q → r ≡ moving l start count to
+  unfolding moving
+  move-no q e h = rw e h
+
+pub ruleset verdicts = (move-granted, move-no)
+
+pub ruleset moves = (moved-by, contraries)

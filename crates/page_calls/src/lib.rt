@@ -1,0 +1,108 @@
+// Page transfers between Normal and the world that calls.
+ghost use mathlib.Core.Path.{_≡_};
+ghost use Rattle.mapping.specs.Lists.{held};
+ghost use Rattle.judgements.specs.Names.{normal};
+ghost use Rattle.judgements.specs.Judge.{oneOf, takers, moving, granuleIn, granuleOut, taking, giving};
+use judgements::Answer;
+use judgements::Args;
+use judgements::Deed;
+use judgements::Judged;
+use judgements::Seen;
+use judgements::grant;
+use judgements::names;
+use judgements::refuse;
+use mapping::Lists;
+use pages::Owners;
+use rules::Reason;
+use transfers::Verdict;
+
+// Secure and Realm take pages and give them back.
+fn may_take(world: u64) -> bool
+    ensures { λ r. ⌜ r ≡ oneOf world takers ⌝ }
+{
+    match world {
+        names::SECURE => true,
+        names::REALM => true,
+        _ => false,
+    }
+}
+
+// What a transfer's verdict makes of the call.
+fn moved(t: Verdict, start: u64, count: u64, to: u64) -> Judged
+    ensures { λ r. ⌜ r ≡ moving t start count to ⌝ }
+{
+    match t {
+        Verdict::Granted => grant(Answer::Done, Deed::Move { start, count, to }),
+        Verdict::No(r) => refuse(r),
+    }
+}
+
+// One page from Normal to Realm.
+pub fn granule_in(v: Seen, owners: &Owners, lists: &Lists, a: Args) -> Judged
+    ensures { λ r. ⌜ r ≡ granuleIn v (now (owners .entry)) (held (now (lists .entry)) normal) a ⌝ }
+{
+    if v.caller != names::REALM {
+        return refuse(Reason::Unserved);
+    }
+    let start = a.x1;
+    let w = v.window;
+    moved(
+        transfers::judge(w, owners, lists, names::NORMAL, start, 1),
+        start,
+        1,
+        names::REALM,
+    )
+}
+
+// One page from Realm to Normal.
+pub fn granule_out(v: Seen, owners: &Owners, lists: &Lists, a: Args) -> Judged
+    ensures { λ r. ⌜ r ≡ granuleOut v (now (owners .entry)) (held (now (lists .entry)) (v .caller)) a ⌝ }
+{
+    if v.caller != names::REALM {
+        return refuse(Reason::Unserved);
+    }
+    let start = a.x1;
+    let w = v.window;
+    moved(
+        transfers::judge(w, owners, lists, v.caller, start, 1),
+        start,
+        1,
+        names::NORMAL,
+    )
+}
+
+// Several pages from Normal to the caller.
+pub fn take_pages(v: Seen, owners: &Owners, lists: &Lists, a: Args) -> Judged
+    ensures { λ r. ⌜ r ≡ taking v (now (owners .entry)) (held (now (lists .entry)) normal) a ⌝ }
+{
+    if !may_take(v.caller) {
+        return refuse(Reason::Unserved);
+    }
+    let start = a.x1;
+    let count = a.x2;
+    let w = v.window;
+    moved(
+        transfers::judge_several(w, owners, lists, names::NORMAL, start, count),
+        start,
+        count,
+        v.caller,
+    )
+}
+
+// Several pages from the caller to Normal.
+pub fn give_pages(v: Seen, owners: &Owners, lists: &Lists, a: Args) -> Judged
+    ensures { λ r. ⌜ r ≡ giving v (now (owners .entry)) (held (now (lists .entry)) (v .caller)) a ⌝ }
+{
+    if !may_take(v.caller) {
+        return refuse(Reason::Unserved);
+    }
+    let start = a.x1;
+    let count = a.x2;
+    let w = v.window;
+    moved(
+        transfers::judge_several(w, owners, lists, v.caller, start, count),
+        start,
+        count,
+        names::NORMAL,
+    )
+}

@@ -1,0 +1,47 @@
+-- Each arm of `realm_call` is reached by the key that `realms` picks it for.
+use borrow.Author.Needs.{needs}
+use Rattle.judgements.specs.Judge.{realms}
+use Rattle.rules.specs.Tests.{contraries}
+use Rattle.standard.proofs.realm_call.Statement.{statement}
+use Rattle.standard.proofs.realm_call.Tie as tie
+
+granule-in-requires : tie.Need-granule-in-requires
+granule-in-requires c κs = search needs
+
+granule-out-requires : tie.Need-granule-out-requires
+granule-out-requires c κs = search needs
+
+finish-requires : tie.Need-finish-requires
+finish-requires c κs = search needs
+
+ranged-call-requires : tie.Need-ranged-call-requires
+ranged-call-requires c κs = search needs
+
+returns : tie.Need-returns
+unfolding realms
+returns c = search contraries depth 20
+
+returns-2 : tie.Need-returns-2
+unfolding realms
+returns-2 c = search contraries depth 20
+
+returns-3 : tie.Need-returns-3
+unfolding realms
+returns-3 c = search contraries depth 20
+
+returns-4 : tie.Need-returns-4
+unfolding realms
+returns-4 c = search contraries depth 20
+
+pub realm-call-spec : {M : Type 1} → statement M
+realm-call-spec =
+    tie.close
+    (tie.spec
+    granule-in-requires
+    granule-out-requires
+    finish-requires
+    ranged-call-requires
+    returns
+    returns-2
+    returns-3
+    returns-4)

@@ -1,0 +1,83 @@
+-- Each arm of `standard_call` is reached by the key that `standard` picks it for.
+use borrow.Author.Needs.{needs}
+use Rattle.judgements.specs.Judge.{standard}
+use Rattle.rules.specs.Tests.{contraries}
+use Rattle.standard.proofs.standard_call.Statement.{statement}
+use Rattle.standard.proofs.standard_call.Tie as tie
+
+power-version-requires : tie.Need-power-version-requires
+power-version-requires c κs = search needs
+
+stop-core-requires : tie.Need-stop-core-requires
+stop-core-requires c κs = search needs
+
+start-core-requires : tie.Need-start-core-requires
+start-core-requires c κs = search needs
+
+start-core-requires-2 : tie.Need-start-core-requires-2
+start-core-requires-2 c κs = search needs
+
+state-core-requires : tie.Need-state-core-requires
+state-core-requires c κs = search needs
+
+state-core-requires-2 : tie.Need-state-core-requires-2
+state-core-requires-2 c κs = search needs
+
+power-features-requires : tie.Need-power-features-requires
+power-features-requires c κs = search needs
+
+realm-call-requires : tie.Need-realm-call-requires
+realm-call-requires c κs = search needs
+
+returns : tie.Need-returns
+unfolding standard
+returns c = search contraries fits 20000 depth 40
+
+returns-2 : tie.Need-returns-2
+unfolding standard
+returns-2 c = search contraries fits 20000 depth 40
+
+returns-3 : tie.Need-returns-3
+unfolding standard
+returns-3 c = search contraries fits 20000 depth 40
+
+returns-4 : tie.Need-returns-4
+unfolding standard
+returns-4 c = search contraries fits 20000 depth 40
+
+returns-5 : tie.Need-returns-5
+unfolding standard
+returns-5 c = search contraries fits 20000 depth 40
+
+returns-6 : tie.Need-returns-6
+unfolding standard
+returns-6 c = search contraries fits 20000 depth 40
+
+returns-7 : tie.Need-returns-7
+unfolding standard
+returns-7 c = search contraries fits 20000 depth 40
+
+returns-8 : tie.Need-returns-8
+unfolding standard
+returns-8 c = search contraries fits 20000 depth 40
+
+pub standard-call-spec : {M : Type 1} → statement M
+standard-call-spec =
+    tie.close
+    (tie.spec
+    power-version-requires
+    stop-core-requires
+    start-core-requires
+    start-core-requires-2
+    state-core-requires
+    state-core-requires-2
+    power-features-requires
+    realm-call-requires
+    returns
+    returns-2
+    returns-3
+    returns-4
+    returns-5
+    returns-6
+    returns-7
+    returns-8)
