@@ -19,14 +19,14 @@ use Rattle.pages.specs.declared.Window.{Window}
 use Rattle.mapping.specs.declared.Mapping.{Mapping}
 use Rattle.transfers.specs.Kept.{Movable, move-granted, carried-whole, carried-from, carried-inside, carried-outside}
 use Rattle.mapping.specs.Lists.{WholeLists, held, holding-whole, holding-other, released-whole, released-other}
-use Rattle.judging.specs.Names.{secure, normal, realm}
-use Rattle.judging.specs.Judge.{View, calledBy}
-use Rattle.judging.specs.Grounds.{Takes, Between, Moves, Starts, Grounds, grounded}
-use Rattle.judging.specs.Grounds.Between.{toCaller, toNormal}
-use Rattle.judging.specs.declared.Answer.{Answer}
-use Rattle.judging.specs.declared.Answer.the-variants.{Version, PowerVersion, Done, On, Off, Pending, Owns, Leads, Count, Silent, No}
-use Rattle.judging.specs.declared.Deed.{Deed}
-use Rattle.judging.specs.declared.Deed.the-variants.{Nothing, Move, Map, Unmap, Start, Stop, HandOver, Finish}
+use Rattle.judgements.specs.Names.{secure, normal, realm}
+use Rattle.judgements.specs.Judge.{View, calledBy}
+use Rattle.judgements.specs.Grounds.{Takes, Between, Moves, Starts, Grounds, grounded}
+use Rattle.judgements.specs.Grounds.Between.{toCaller, toNormal}
+use Rattle.judgements.specs.declared.Answer.{Answer}
+use Rattle.judgements.specs.declared.Answer.the-variants.{Version, PowerVersion, Done, On, Off, Pending, Owns, Leads, Count, Silent, No}
+use Rattle.judgements.specs.declared.Deed.{Deed}
+use Rattle.judgements.specs.declared.Deed.the-variants.{Nothing, Move, Map, Unmap, Start, Stop, HandOver, Finish}
 use Rattle.rules.specs.Reasons.{minus}
 use Rattle.calls.specs.Answers.{written}
 use Rattle.calls.specs.Step.{State, state, sight, callerOf, judgedIn, ownersBy, savedBy, powersBy, turnsBy, listsBy, answeredIn, applied, called, Seat, startNumbers, arrivedIn, arrives}

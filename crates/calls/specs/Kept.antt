@@ -22,11 +22,11 @@ use Rattle.mapping.specs.declared.Mapping.{Mapping}
 use Rattle.transfers.specs.Transfer.{moveVerdict, carried}
 use Rattle.transfers.specs.Kept.{carried-keeps, carried-worlds}
 use Rattle.transfers.specs.declared.Verdict.the-variants as Moving
-use Rattle.judging.specs.Names.{secure, normal, realm}
-use Rattle.judging.specs.Grounds.{Takes, Calls, Between, Grounds, grounded}
-use Rattle.judging.specs.Grounds.Between.{toCaller, toNormal}
-use Rattle.judging.specs.declared.Deed.{Deed}
-use Rattle.judging.specs.declared.Deed.the-variants.{Nothing, Move, Map, Unmap, Start, Stop, HandOver, Finish}
+use Rattle.judgements.specs.Names.{secure, normal, realm}
+use Rattle.judgements.specs.Grounds.{Takes, Calls, Between, Grounds, grounded}
+use Rattle.judgements.specs.Grounds.Between.{toCaller, toNormal}
+use Rattle.judgements.specs.declared.Deed.{Deed}
+use Rattle.judgements.specs.declared.Deed.the-variants.{Nothing, Move, Map, Unmap, Start, Stop, HandOver, Finish}
 use Rattle.calls.specs.Step.{State, state, sight, callerOf, ownersBy, powersBy, turnsBy, listsBy, applied, called}
 use Rattle.calls.specs.declared.Site.{Site}
 use Rattle.calls.specs.Effects.{deedIn, after, afterArrival, comeIn, arrival-by, WholeTables, called-whole, come-whole}

@@ -21,14 +21,14 @@ use Rattle.pages.specs.declared.Window.{Window}
 use Rattle.mapping.specs.Lists.{held, holding, released}
 use Rattle.mapping.specs.declared.Mapping.{Mapping}
 use Rattle.transfers.specs.Transfer.{carried}
-use Rattle.judging.specs.Names.{normal}
-use Rattle.judging.specs.Judge.{viewed, sighted, judged}
-use Rattle.judging.specs.declared.Answer.{Answer}
-use Rattle.judging.specs.declared.Answer.the-variants.{Owns, Silent, No}
-use Rattle.judging.specs.declared.Deed.{Deed}
-use Rattle.judging.specs.declared.Deed.the-variants.{Move, Map, Unmap, Start, Stop, HandOver, Finish}
-use Rattle.judging.specs.declared.Judged.{Judged}
-use Rattle.judging.specs.declared.Seen.{Seen}
+use Rattle.judgements.specs.Names.{normal}
+use Rattle.judgements.specs.Judge.{viewed, sighted, judged}
+use Rattle.judgements.specs.declared.Answer.{Answer}
+use Rattle.judgements.specs.declared.Answer.the-variants.{Owns, Silent, No}
+use Rattle.judgements.specs.declared.Deed.{Deed}
+use Rattle.judgements.specs.declared.Deed.the-variants.{Move, Map, Unmap, Start, Stop, HandOver, Finish}
+use Rattle.judgements.specs.declared.Judged.{Judged}
+use Rattle.judgements.specs.declared.Seen.{Seen}
 use Rattle.calls.specs.Answers.{negative, bit, written}
 use Rattle.calls.specs.Step.{state, seenBy, ownersBy, savedBy, powersBy, turnsBy, listsBy, answeredIn, applied, called, Seat, seat, arrivedIn}
 use Rattle.calls.specs.declared.Site.{Site}

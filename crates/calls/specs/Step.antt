@@ -12,13 +12,13 @@ use Rattle.cores.specs.declared.Turn.{Turn}
 use Rattle.pages.specs.declared.Window.{Window}
 use Rattle.mapping.specs.Lists.{held, holding, released}
 use Rattle.transfers.specs.Transfer.{carried}
-use Rattle.judging.specs.Names.{normal}
-use Rattle.judging.specs.Judge.{View, viewed, Sight, sighted, judged, calledBy}
-use Rattle.judging.specs.declared.Answer.{Answer}
-use Rattle.judging.specs.declared.Deed.{Deed}
-use Rattle.judging.specs.declared.Deed.the-variants.{Nothing, Move, Map, Unmap, Start, Stop, HandOver, Finish}
-use Rattle.judging.specs.declared.Judged.{Judged}
-use Rattle.judging.specs.declared.Seen.{Seen}
+use Rattle.judgements.specs.Names.{normal}
+use Rattle.judgements.specs.Judge.{View, viewed, Sight, sighted, judged, calledBy}
+use Rattle.judgements.specs.declared.Answer.{Answer}
+use Rattle.judgements.specs.declared.Deed.{Deed}
+use Rattle.judgements.specs.declared.Deed.the-variants.{Nothing, Move, Map, Unmap, Start, Stop, HandOver, Finish}
+use Rattle.judgements.specs.declared.Judged.{Judged}
+use Rattle.judgements.specs.declared.Seen.{Seen}
 use Rattle.calls.specs.Answers.{written}
 use Rattle.calls.specs.declared.Site.{Site}
 use Rattle.calls.specs.declared.Made.{Made}

@@ -7,8 +7,8 @@ pub mod deeds;
 
 use cores::Powers;
 use cores::Turns;
-use judging::Answer;
-use judging::Seen;
+use judgements::Answer;
+use judgements::Seen;
 use ledger::Ledger;
 use mapping::Lists;
 use pages::Owners;
@@ -85,7 +85,7 @@ pub fn arrive(core: u64, saved: &mut Saved, powers: &mut Powers, turns: &mut Tur
     registers::keep_start(
         saved,
         core,
-        judging::names::NORMAL,
+        judgements::names::NORMAL,
         power.context,
         power.start,
     );

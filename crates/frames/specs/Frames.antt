@@ -18,7 +18,7 @@ use Rattle.pages.specs.Naming.{naming}
 use Rattle.pages.specs.declared.Naming.{Naming}
 use Rattle.pages.specs.declared.Naming.the-variants as Naming
 use Rattle.mapping.specs.Lists.{unmapped}
-use Rattle.judging.specs.Names.{normal}
+use Rattle.judgements.specs.Names.{normal}
 use Rattle.calls.specs.Step.{State, state, called, Seat, seat, arrivedIn}
 use Rattle.calls.specs.declared.Site.{Site}
 use Rattle.lines.specs.declared.Status.{Status}

@@ -18,7 +18,7 @@ use Rattle.cores.specs.declared.Turn.{Turn}
 use Rattle.pages.specs.Window.{acceptable}
 use Rattle.pages.specs.Naming.{naming, naming-by, Outcome}
 use Rattle.pages.specs.declared.Naming.{Naming}
-use Rattle.judging.specs.Names.{normal}
+use Rattle.judgements.specs.Names.{normal}
 use Rattle.calls.specs.Step.{State, state, called, Seat, seat, arrivedIn}
 use Rattle.calls.specs.declared.Site.{Site}
 use Rattle.calls.specs.declared.Made.{Made}

@@ -175,7 +175,7 @@ fn show(core: u64, saved: &Saved, powers: &Powers, turns: &Turns) -> Reply
         let shown = registers::show(saved, core, world);
         return Reply::Called { core, world, shown };
     }
-    let shown = registers::show(saved, core, judging::names::NORMAL);
+    let shown = registers::show(saved, core, judgements::names::NORMAL);
     Reply::Called {
         core,
         world: NO_WORLD,

@@ -22,7 +22,7 @@ use Rattle.mapping.specs.Sound.{Sound, covers, sound-none}
 use Rattle.mapping.specs.Once.{coverings, covered-few, one-covers, lead-exact}
 use Rattle.mapping.specs.declared.Mapping.{Mapping}
 use Rattle.mapping.specs.declared.Lead.the-variants.{To}
-use Rattle.judging.specs.Grounds.{Calls}
+use Rattle.judgements.specs.Grounds.{Calls}
 use Rattle.calls.specs.Kept.{Right}
 use Rattle.frames.specs.Frames.{Machine, first, stateOf}
 use Rattle.frames.specs.Stays.{site-stays, settled}

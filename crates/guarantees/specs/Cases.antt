@@ -27,13 +27,13 @@ use Rattle.mapping.specs.Mapping.{unaligned, malformed, mapVerdict, hasExactly,
 use Rattle.mapping.specs.Lists.{held, held-some}
 use Rattle.mapping.specs.declared.Mapping.{Mapping}
 use Rattle.transfers.specs.Transfer.{moveTests, moveVerdict}
-use Rattle.judging.specs.Names.{secure, normal, realm}
-use Rattle.judging.specs.Judge.{View, denied, granted, oneOf, callers, calledBy, argsOf, byHandler, found, judgedBy, judged, board, wanted, mapping, unmapping, standard, starting, stating, goodStart, ownedAt, realms, granuleIn, granuleOut, moving}
-use Rattle.judging.specs.declared.Answer.{Answer}
-use Rattle.judging.specs.declared.Answer.the-variants as Answer
-use Rattle.judging.specs.declared.Deed.the-variants as Deed
-use Rattle.judging.specs.declared.Judged.{Judged}
-use Rattle.judging.specs.declared.Args.{Args}
+use Rattle.judgements.specs.Names.{secure, normal, realm}
+use Rattle.judgements.specs.Judge.{View, denied, granted, oneOf, callers, calledBy, argsOf, byHandler, found, judgedBy, judged, board, wanted, mapping, unmapping, standard, starting, stating, goodStart, ownedAt, realms, granuleIn, granuleOut, moving}
+use Rattle.judgements.specs.declared.Answer.{Answer}
+use Rattle.judgements.specs.declared.Answer.the-variants as Answer
+use Rattle.judgements.specs.declared.Deed.the-variants as Deed
+use Rattle.judgements.specs.declared.Judged.{Judged}
+use Rattle.judgements.specs.declared.Args.{Args}
 use Rattle.calls.specs.Answers.{written}
 use Rattle.calls.specs.Step.{State, state, sight, callerOf, judgedIn}
 use Rattle.calls.specs.Effects.{resultsIn, after, stepped-by}

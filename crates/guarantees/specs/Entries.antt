@@ -14,11 +14,11 @@ use Rattle.ledger.specs.Only.{only}
 use Rattle.ledger.specs.OneHandler.{Attempt, One, answer, accepted, covers, one-handler}
 use Rattle.ledger.specs.OneHandler as OneHandler
 use Rattle.ledger.specs.declared.Entry.the-variants as Entry
-use Rattle.judging.specs.Names.{secure, normal, realm}
-use Rattle.judging.specs.Judge.{calledBy, argsOf, found, oneOf, callers}
-use Rattle.judging.specs.Grounds.{Calls, Takes}
-use Rattle.judging.specs.Asked.{key, judged-found}
-use Rattle.judging.specs.declared.Judged.{Judged}
+use Rattle.judgements.specs.Names.{secure, normal, realm}
+use Rattle.judgements.specs.Judge.{calledBy, argsOf, found, oneOf, callers}
+use Rattle.judgements.specs.Grounds.{Calls, Takes}
+use Rattle.judgements.specs.Asked.{key, judged-found}
+use Rattle.judgements.specs.declared.Judged.{Judged}
 use Rattle.calls.specs.Step.{State, sight, callerOf, judgedIn, called, applied}
 use Rattle.lines.specs.declared.Status.{Status}
 use Rattle.lines.specs.declared.Status.the-variants.{Accepted, NoHex, Unknown, Misplaced, OutOfRange, Clash}

@@ -10,7 +10,7 @@ use Rattle.lines.specs.declared.Status.the-variants.{Accepted}
 use Rattle.lines.specs.declared.Frame.the-variants as Frame
 use Rattle.frames.specs.Frames.{Machine, stateOf}
 use Rattle.frames.specs.declared.Reply.the-variants.{Told}
-use Rattle.judging.specs.Asked.{Granted}
+use Rattle.judgements.specs.Asked.{Granted}
 use Rattle.guarantees.specs.Runs.{Event, Events, next, reply, Taken, ran}
 
 -- ---- what names an owner

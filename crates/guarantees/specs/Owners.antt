@@ -16,8 +16,8 @@ use Rattle.pages.specs.Named.{isNamed, free-at}
 use Rattle.pages.specs.Naming.{naming, Granted, naming-granted, granted-inside, granted-outside}
 use Rattle.pages.specs.declared.Place.the-variants.{Page}
 use Rattle.pages.specs.declared.Naming.the-variants as Naming
-use Rattle.judging.specs.declared.Deed.{Deed}
-use Rattle.judging.specs.declared.Deed.the-variants.{Nothing, Move, Map, Unmap, Start, Stop, HandOver, Finish}
+use Rattle.judgements.specs.declared.Deed.{Deed}
+use Rattle.judgements.specs.declared.Deed.the-variants.{Nothing, Move, Map, Unmap, Start, Stop, HandOver, Finish}
 use Rattle.calls.specs.Step.{State, sight, called, applied, arrivedIn}
 use Rattle.calls.specs.Effects.{deedIn, after, Carries, owners-spared, movable, moved-inside, moved-outside}
 use Rattle.calls.specs.Kept.{Right}
@@ -30,7 +30,7 @@ use Rattle.frames.specs.Stays.{framed-by, shown-not-told, settled, call-ends}
 use Rattle.frames.specs.declared.Reply.{Reply}
 use Rattle.frames.specs.declared.Reply.the-variants.{Told, Called}
 use Rattle.guarantees.specs.Runs.{Event, Events, byte, next, reply, ran, ran-two, always}
-use Rattle.judging.specs.Asked.{granted-moves, moves-granted}
+use Rattle.judgements.specs.Asked.{granted-moves, moves-granted}
 use Rattle.guarantees.specs.Named.{Transfers, Names, Unmoved, Unnamed, LastTransfer, NamedBy, Named, by-transfer, by-set-up, as-before}
 use Rattle.guarantees.specs.Fit.{Fit, fit-next}
 

@@ -21,11 +21,11 @@ use Rattle.mapping.specs.Sound.{covers, Formed}
 use Rattle.mapping.specs.Once.{coverings, countCovered}
 use Rattle.mapping.specs.declared.Mapping.{Mapping}
 use Rattle.mapping.specs.declared.Lead.the-variants.{To}
-use Rattle.judging.specs.Names.{normal}
-use Rattle.judging.specs.Judge.{calledBy, argsOf, found}
-use Rattle.judging.specs.Grounds.{Calls}
-use Rattle.judging.specs.declared.Answer.the-variants.{No}
-use Rattle.judging.specs.declared.Deed.the-variants.{HandOver, Finish}
+use Rattle.judgements.specs.Names.{normal}
+use Rattle.judgements.specs.Judge.{calledBy, argsOf, found}
+use Rattle.judgements.specs.Grounds.{Calls}
+use Rattle.judgements.specs.declared.Answer.the-variants.{No}
+use Rattle.judgements.specs.declared.Deed.the-variants.{HandOver, Finish}
 use Rattle.rules.specs.Reasons.{minus}
 use Rattle.calls.specs.Step.{sight, callerOf, judgedIn, startNumbers}
 use Rattle.calls.specs.Effects.{deedIn, answerIn, resultsIn, Receives}
@@ -39,7 +39,7 @@ use Rattle.frames.specs.declared.Reply.{Reply}
 use Rattle.frames.specs.declared.Reply.the-variants.{Told}
 use Rattle.stream.specs.Run.{textOf}
 use Rattle.guarantees.specs.Runs.{Event, Events, Taken}
-use Rattle.judging.specs.Asked.{key, HandsTo, Finishes, Reached}
+use Rattle.judgements.specs.Asked.{key, HandsTo, Finishes, Reached}
 use Rattle.guarantees.specs.Named.{Named}
 
 abbrev pub window : Machine → Window

@@ -10,11 +10,11 @@ use Rattle.registers.specs.Registers.{saved}
 use Rattle.rules.specs.declared.Reason.{Reason}
 use Rattle.cores.specs.Power.{turnOf, put, on, isOn, isPending}
 use Rattle.cores.specs.Cores.{power, turn}
-use Rattle.judging.specs.Names.{secure, normal, realm}
-use Rattle.judging.specs.Grounds.{Takes}
-use Rattle.judging.specs.declared.Answer.the-variants.{No}
-use Rattle.judging.specs.declared.Deed.{Deed}
-use Rattle.judging.specs.declared.Deed.the-variants.{Nothing, Move, Map, Unmap, Start, Stop, HandOver, Finish}
+use Rattle.judgements.specs.Names.{secure, normal, realm}
+use Rattle.judgements.specs.Grounds.{Takes}
+use Rattle.judgements.specs.declared.Answer.the-variants.{No}
+use Rattle.judgements.specs.declared.Deed.{Deed}
+use Rattle.judgements.specs.declared.Deed.the-variants.{Nothing, Move, Map, Unmap, Start, Stop, HandOver, Finish}
 use Rattle.calls.specs.Step.{State, sight, callerOf, called, arrivedIn, startNumbers}
 use Rattle.calls.specs.Effects.{after, deedIn, answerIn, Receives, refused, saved-spared, turn-handed, turn-finished, own-results, own-frame, own-past, hands, handed-numbers, handed-rest, finishes, finished-numbers, finished-rest, arrival-saved, arrived-numbers, arrived-power, arrived-turn}
 use Rattle.calls.specs.Kept.{Right}
@@ -27,8 +27,8 @@ use Rattle.frames.specs.Stays.{framed-by, shown-not-told, refused-same, told-go
 use Rattle.frames.specs.declared.Reply.{Reply}
 use Rattle.frames.specs.declared.Reply.the-variants.{Told, Called}
 use Rattle.guarantees.specs.Runs.{Event, byte, next, reply, Taken}
-use Rattle.judging.specs.Judge.{oneOf, callers}
-use Rattle.judging.specs.Asked.{hand-over-asked, finish-asked, asked-hand-over, asked-finish}
+use Rattle.judgements.specs.Judge.{oneOf, callers}
+use Rattle.judgements.specs.Asked.{hand-over-asked, finish-asked, asked-hand-over, asked-finish}
 use Rattle.guarantees.specs.Fit.{Fit}
 use Rattle.guarantees.specs.Entries.{is-caller, reaches}
 use Rattle.guarantees.specs.Statements.{denied, Heeded}

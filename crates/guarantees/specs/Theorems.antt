@@ -12,7 +12,7 @@ use Rattle.ledger.specs.Only.{only}
 use Rattle.ledger.specs.OneHandler.{One, covers}
 use Rattle.ledger.specs.declared.Lookup.{Lookup}
 use Rattle.pages.specs.Owners.{unowned-owner}
-use Rattle.judging.specs.Judge.{calledBy, argsOf, found}
+use Rattle.judgements.specs.Judge.{calledBy, argsOf, found}
 use Rattle.calls.specs.Step.{sight, judgedIn}
 use Rattle.lines.specs.Frame.{numbers, parsed, parsed-call}
 use Rattle.lines.specs.Lines.{linesOf}
@@ -24,7 +24,7 @@ use Rattle.frames.specs.declared.Reply.{Reply}
 use Rattle.frames.specs.declared.Reply.the-variants.{Told, Called}
 use Rattle.stream.specs.Run.{textOf, answers, printed}
 use Rattle.guarantees.specs.Runs.{Event, Events, byte, next, reply, Taken, ran, replies, replies-count, Allowed, Follows, carried, follows-is, follows-ran}
-use Rattle.judging.specs.Asked.{key}
+use Rattle.judgements.specs.Asked.{key}
 use Rattle.guarantees.specs.Named.{Named, by-transfer, by-set-up, as-before, LastTransfer, Unmoved}
 use Rattle.guarantees.specs.Fit.{first-fit, ran-fit}
 use Rattle.guarantees.specs.Entries.{entries, one-entry}
