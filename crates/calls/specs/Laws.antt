@@ -3,7 +3,6 @@ use mathlib.Core.Path.{_≡_, sym, ap, _∙_}
 use mathlib.Core.Bool.{Bool, true, false, not}
 use mathlib.Core.List.{List, [], _∷_}
 use Prim.Native.Nat.{ℕ}
-use lib.ListN.{take, drop}
 use borrow.Author.Tests.{not-true, not-false}
 use Rattle.rules.specs.Choice.{pick-yes, pick-no}
 use Rattle.rules.specs.Reasons.{minus}
@@ -26,13 +25,13 @@ use Rattle.judging.specs.Judge.{viewed, sighted, judged}
 use Rattle.judging.specs.declared.Answer.{Answer}
 use Rattle.judging.specs.declared.Answer.the-variants.{Owns, Silent, No}
 use Rattle.judging.specs.declared.Deed.{Deed}
-use Rattle.judging.specs.declared.Deed.the-variants.{Move, Map, Unmap, Start, Stop, HandOver, Finish}
+use Rattle.judging.specs.declared.Deed.the-variants.{Nothing, Move, Map, Unmap, Start, Stop, HandOver, Finish}
 use Rattle.judging.specs.declared.Judged.{Judged}
 use Rattle.judging.specs.declared.Seen.{Seen}
 use Rattle.calls.specs.Answers.{negative, bit, written}
-use Rattle.calls.specs.Step.{state, seenBy, ownersBy, savedBy, powersBy, turnsBy, listsBy, answeredIn, applied, called, Seat, seat, arrivedIn}
+use Rattle.calls.specs.Deeds.{Tables, tables, startedIn, stoppedIn, handedIn, finishedIn, finishNumbers, carriedOut}
+use Rattle.calls.specs.Step.{state, seenBy, answeredIn, withTables, applied, called, seat, arrivedIn}
 use Rattle.calls.specs.declared.Site.{Site}
-use Rattle.calls.specs.declared.Made.{Made}
 
 -- ---- what an answer writes
 module _ (p : Parts) (a : Answer) (r r′ : List ℕ) (c w : ℕ) where
@@ -55,49 +54,64 @@ pub answered : (r q r′ xs : List ℕ) (c w : ℕ) (id : Identifier) (p : Parts
 answered r q r′ xs c w id p a x0 e z f g h = rw (← z, ← f, ← g, ← e) h
 
 -- ---- what a deed does
-module _ (d : Deed) (t t′ : List ℕ) where
-  pub by-move : (w : Window) (start count to : ℕ) → d ≡ Move start count to → t′ ≡ carried w t start count to → t′ ≡ ownersBy d w t
-  by-move w start count to e h = rw e h
+-- what is read of one core, changed and stored is changed in its place
+module _ (t t′ : List ℕ) (core : ℕ) where
+  pub starts : (a x : ℕ) (p q : Power) → p ≡ power t core → q ≡ started p a x → t′ ≡ powered t core q → t′ ≡ startedIn t core a x
+  starts a x p q e f h = rw (← e, ← f) h
 
-  pub by-hand-over : (core caller to : ℕ) (xs : List ℕ) → d ≡ HandOver to → t′ ≡ kept t core to xs → t′ ≡ savedBy d t core caller xs
-  by-hand-over core caller to xs e h = rw e h
+  pub stops : (p q : Power) → p ≡ power t core → q ≡ stopped p → t′ ≡ powered t core q → t′ ≡ stoppedIn t core
+  stops p q e f h = rw (← e, ← f) h
 
-  pub by-finish : (core caller : ℕ) (xs : List ℕ) → d ≡ Finish → t′ ≡ kept t core normal (take 4 (drop 1 xs)) → t′ ≡ savedBy d t core caller xs
-  by-finish core caller xs e h = rw e h
+  pub hands : (to : ℕ) (p q : Turn) → p ≡ turn t core → q ≡ handed p to → t′ ≡ turned t core q → t′ ≡ handedIn t core to
+  hands to p q e f h = rw (← f) h
 
-  pub by-start : (core c a x : ℕ) (p q : Power) → d ≡ Start c a x → p ≡ power t c → q ≡ started p a x → t′ ≡ powered t c q → t′ ≡ powersBy d t core
-  by-start core c a x p q e f g h = rw (e, ← f, ← g) h
+  pub finishes : (p q : Turn) → p ≡ turn t core → q ≡ finished p → t′ ≡ turned t core q → t′ ≡ finishedIn t core
+  finishes p q e f h = rw (← f) h
 
-  pub by-stop : (core : ℕ) (p q : Power) → d ≡ Stop → p ≡ power t core → q ≡ stopped p → t′ ≡ powered t core q → t′ ≡ powersBy d t core
-  by-stop core p q e f g h = rw (e, ← f, ← g) h
+pub ruleset changes = (starts, stops, hands, finishes)
 
-  pub by-handed : (core to : ℕ) (p q : Turn) → d ≡ HandOver to → p ≡ turn t core → q ≡ handed p to → t′ ≡ turned t core q → t′ ≡ turnsBy d t core
-  by-handed core to p q e f g h = rw (e, ← g) h
+-- in each arm the deed is known, and with it what becomes of the tables
+module _ (d : Deed) (w : Window) (o r p t m : List ℕ) (core caller : ℕ) (xs : List ℕ) where
+  pub by-nothing : d ≡ Nothing → tables o r p t m ≡ carriedOut d w core caller xs (tables o r p t m)
+  by-nothing e = rw e
 
-  pub by-finished : (core : ℕ) (p q : Turn) → d ≡ Finish → p ≡ turn t core → q ≡ finished p → t′ ≡ turned t core q → t′ ≡ turnsBy d t core
-  by-finished core p q e f g h = rw (e, ← g) h
+  pub by-move : (o′ : List ℕ) (start count to : ℕ) → d ≡ Move start count to → o′ ≡ carried w o start count to
+      → tables o′ r p t m ≡ carriedOut d w core caller xs (tables o r p t m)
+  by-move o′ start count to e h = rw (e, h)
 
-  pub by-map : (caller : ℕ) (m : Mapping) → d ≡ Map m → t′ ≡ holding t caller m → t′ ≡ listsBy d t caller
-  by-map caller m e h = rw e h
+  pub by-map : (m′ : List ℕ) (n : Mapping) → d ≡ Map n → m′ ≡ holding m caller n → tables o r p t m′ ≡ carriedOut d w core caller xs (tables o r p t m)
+  by-map m′ n e h = rw (e, h)
 
-  pub by-unmap : (caller virt size : ℕ) → d ≡ Unmap virt size → t′ ≡ released t caller virt size → t′ ≡ listsBy d t caller
-  by-unmap caller virt size e h = rw e h
+  pub by-unmap : (m′ : List ℕ) (virt size : ℕ) → d ≡ Unmap virt size → m′ ≡ released m caller virt size
+      → tables o r p t m′ ≡ carriedOut d w core caller xs (tables o r p t m)
+  by-unmap m′ virt size e h = rw (e, h)
 
-pub ruleset deeds = (by-move, by-hand-over, by-finish, by-start, by-stop, by-handed, by-finished, by-map, by-unmap)
+  pub by-start : (p′ : List ℕ) (c a x : ℕ) → d ≡ Start c a x → p′ ≡ startedIn p c a x → tables o r p′ t m ≡ carriedOut d w core caller xs (tables o r p t m)
+  by-start p′ c a x e h = rw (e, h)
+
+  pub by-stop : (p′ : List ℕ) → d ≡ Stop → p′ ≡ stoppedIn p core → tables o r p′ t m ≡ carriedOut d w core caller xs (tables o r p t m)
+  by-stop p′ e h = rw (e, h)
+
+  pub by-hand-over : (r′ t′ : List ℕ) (to : ℕ) → d ≡ HandOver to → r′ ≡ kept r core to xs → t′ ≡ handedIn t core to
+      → tables o r′ p t′ m ≡ carriedOut d w core caller xs (tables o r p t m)
+  by-hand-over r′ t′ to e h k = rw (e, h, k)
+
+  pub by-finish : (r′ t′ : List ℕ) → d ≡ Finish → r′ ≡ kept r core normal (finishNumbers caller xs) → t′ ≡ finishedIn t core
+      → tables o r′ p t′ m ≡ carriedOut d w core caller xs (tables o r p t m)
+  by-finish r′ t′ e h k = rw (e, h, k)
+
+pub ruleset deeds = (by-nothing, by-move, by-map, by-unmap, by-start, by-stop, by-hand-over, by-finish)
 
 -- ---- the whole call, from what each part ensures
-pub stepped : (w : Site) (l o r p t m xs : List ℕ) (core : ℕ) (v : Seen) (j : Judged) (q r′ o′ p′ t′ m′ : List ℕ)
+pub stepped : (w : Site) (l o r p t m xs : List ℕ) (core : ℕ) (v : Seen) (j : Judged) (q o′ r′ p′ t′ m′ : List ℕ)
     → v ≡ seenBy w t core
     → j ≡ judged (sighted l (viewed v p o (held m (v .caller)) (held m normal))) xs
     → q ≡ answeredIn r core (v .caller) xs (j .answer)
-    → r′ ≡ savedBy (j .deed) q core (v .caller) xs
-    → o′ ≡ ownersBy (j .deed) (w .window) o
-    → p′ ≡ powersBy (j .deed) p core
-    → t′ ≡ turnsBy (j .deed) t core
-    → m′ ≡ listsBy (j .deed) m (v .caller)
+    → tables o′ r′ p′ t′ m′ ≡ carriedOut (j .deed) (w .window) core (v .caller) xs (tables o q p t m)
     → (state w l o′ r′ p′ t′ m′, record { caller = v .caller; answer = j .answer }) ≡ called (state w l o r p t m) core xs
 unfolding called applied
-stepped w l o r p t m xs core v j q r′ o′ p′ t′ m′ ev ej eq er eo ep et em = rw (er, eo, ep, et, em, eq, ej, ev)
+stepped w l o r p t m xs core v j q o′ r′ p′ t′ m′ ev ej eq es =
+    ap (λ (y : Tables). (withTables (state w l o r p t m) y, record { caller = v .caller; answer = j .answer })) es ∙ rw (eq, ej, ev)
 
 -- ---- an arrival, from what each part ensures
 module _ (r p t : List ℕ) (core : ℕ) (x : Power) (y : Arriving) (was : x ≡ power p core) (is : y ≡ arrivalOf x) where

@@ -1,6 +1,8 @@
-// What each deed does to each table.
+// What each deed does.
 ghost use mathlib.Core.Path.{_≡_};
-ghost use Rattle.calls.specs.Step.{ownersBy, savedBy, powersBy, turnsBy, listsBy};
+ghost use Rattle.registers.specs.Registers.{kept};
+ghost use Rattle.judging.specs.Names.{normal};
+ghost use Rattle.calls.specs.Deeds.{tables, startedIn, stoppedIn, handedIn, finishedIn, finishNumbers, carriedOut};
 use cores::Powers;
 use cores::Turns;
 use judging::Deed;
@@ -10,131 +12,68 @@ use pages::Owners;
 use pages::Window;
 use registers::Saved;
 
-// Only a move touches the owners.
-pub fn do_owners(t: &mut Owners, w: Window, d: Deed)
-    ensures { λ _. ⌜ now (t .exit) ≡ ownersBy d w (now (t .entry)) ⌝ }
+// The target becomes pending, with the address and the context that it is to find.
+fn start(t: &mut Powers, target: u64, address: u64, context: u64)
+    ensures { λ _. ⌜ now (t .exit) ≡ startedIn (now (t .entry)) target address context ⌝ }
 {
-    match d {
-        Deed::Nothing => {}
-        Deed::Move { start, count, to } => transfers::carry(w, t, start, count, to),
-        Deed::Map(_) => {}
-        Deed::Unmap { virt: _, size: _ } => {}
-        Deed::Start {
-            core: _,
-            start: _,
-            context: _,
-        } => {}
-        Deed::Stop => {}
-        Deed::HandOver(_) => {}
-        Deed::Finish => {}
-    }
+    let was = cores::power_of(t, target);
+    cores::set_power(t, target, was.started(address, context));
 }
 
-// A hand-over gives the receiver all eight numbers; a finish gives Normal's x0 to x3 the finisher's x1 to x4.
-pub fn do_saved(t: &mut Saved, core: u64, caller: u64, x: &[u64; 8], d: Deed)
-    ensures { λ _. ⌜ now (t .exit) ≡ savedBy d (now (t .entry)) core caller (now (x .entry)) ⌝ }
+// The calling core goes OFF.
+fn stop(t: &mut Powers, core: u64)
+    ensures { λ _. ⌜ now (t .exit) ≡ stoppedIn (now (t .entry)) core ⌝ }
+{
+    let was = cores::power_of(t, core);
+    cores::set_power(t, core, was.stopped());
+}
+
+// The receiver gets the caller's eight numbers, and runs.
+fn hand_over(saved: &mut Saved, turns: &mut Turns, core: u64, to: u64, x: &[u64; 8])
+    ensures { λ _. ⌜ (now (saved .exit) ≡ kept (now (saved .entry)) core to (now (x .entry))) × (now (turns .exit) ≡ handedIn (now (turns .entry)) core to) ⌝ }
+{
+    registers::keep(saved, core, to, x);
+    let was = cores::turn_of(turns, core);
+    cores::set_turn(turns, core, was.handed(to));
+}
+
+// Normal gets the finisher's x1 to x4 as its x0 to x3, and runs.
+fn finish(saved: &mut Saved, turns: &mut Turns, core: u64, caller: u64, x: &[u64; 8])
+    ensures { λ _. ⌜ (now (saved .exit) ≡ kept (now (saved .entry)) core normal (finishNumbers caller (now (x .entry)))) × (now (turns .exit) ≡ finishedIn (now (turns .entry)) core) ⌝ }
 {
     let s: &[u64] = x;
-    match d {
-        Deed::Nothing => {}
-        Deed::Move {
-            start: _,
-            count: _,
-            to: _,
-        } => {}
-        Deed::Map(_) => {}
-        Deed::Unmap { virt: _, size: _ } => {}
-        Deed::Start {
-            core: _,
-            start: _,
-            context: _,
-        } => {}
-        Deed::Stop => {}
-        Deed::HandOver(to) => registers::keep(t, core, to, s),
-        Deed::Finish => registers::keep(t, core, names::NORMAL, &s[1..5]),
-    }
+    registers::keep(saved, core, names::NORMAL, &s[1..5]);
+    let was = cores::turn_of(turns, core);
+    cores::set_turn(turns, core, was.finished());
 }
 
-// A start makes its target pending; a stop turns the calling core OFF.
-pub fn do_powers(t: &mut Powers, core: u64, d: Deed)
-    ensures { λ _. ⌜ now (t .exit) ≡ powersBy d (now (t .entry)) core ⌝ }
+// Carries a deed out for the world that called, with its eight numbers.
+pub fn do_deed(
+    d: Deed,
+    w: Window,
+    core: u64,
+    caller: u64,
+    x: &[u64; 8],
+    owners: &mut Owners,
+    saved: &mut Saved,
+    powers: &mut Powers,
+    turns: &mut Turns,
+    lists: &mut Lists,
+)
+    ensures { λ _. ⌜ tables (now (owners .exit)) (now (saved .exit)) (now (powers .exit)) (now (turns .exit)) (now (lists .exit)) ≡ carriedOut d w core caller (now (x .entry)) (tables (now (owners .entry)) (now (saved .entry)) (now (powers .entry)) (now (turns .entry)) (now (lists .entry))) ⌝ }
 {
     match d {
         Deed::Nothing => {}
-        Deed::Move {
-            start: _,
-            count: _,
-            to: _,
-        } => {}
-        Deed::Map(_) => {}
-        Deed::Unmap { virt: _, size: _ } => {}
+        Deed::Move { start, count, to } => transfers::carry(w, owners, start, count, to),
+        Deed::Map(m) => mapping::hold(lists, caller, m),
+        Deed::Unmap { virt, size } => mapping::release(lists, caller, virt, size),
         Deed::Start {
             core: target,
-            start,
+            start: address,
             context,
-        } => {
-            let was = cores::power_of(t, target);
-            cores::set_power(t, target, was.started(start, context));
-        }
-        Deed::Stop => {
-            let was = cores::power_of(t, core);
-            cores::set_power(t, core, was.stopped());
-        }
-        Deed::HandOver(_) => {}
-        Deed::Finish => {}
-    }
-}
-
-// A hand-over and a finish change the world that runs on the core.
-pub fn do_turns(t: &mut Turns, core: u64, d: Deed)
-    ensures { λ _. ⌜ now (t .exit) ≡ turnsBy d (now (t .entry)) core ⌝ }
-{
-    match d {
-        Deed::Nothing => {}
-        Deed::Move {
-            start: _,
-            count: _,
-            to: _,
-        } => {}
-        Deed::Map(_) => {}
-        Deed::Unmap { virt: _, size: _ } => {}
-        Deed::Start {
-            core: _,
-            start: _,
-            context: _,
-        } => {}
-        Deed::Stop => {}
-        Deed::HandOver(to) => {
-            let was = cores::turn_of(t, core);
-            cores::set_turn(t, core, was.handed(to));
-        }
-        Deed::Finish => {
-            let was = cores::turn_of(t, core);
-            cores::set_turn(t, core, was.finished());
-        }
-    }
-}
-
-// A mapping goes into the caller's list, and out of it.
-pub fn do_lists(t: &mut Lists, caller: u64, d: Deed)
-    ensures { λ _. ⌜ now (t .exit) ≡ listsBy d (now (t .entry)) caller ⌝ }
-{
-    match d {
-        Deed::Nothing => {}
-        Deed::Move {
-            start: _,
-            count: _,
-            to: _,
-        } => {}
-        Deed::Map(m) => mapping::hold(t, caller, m),
-        Deed::Unmap { virt, size } => mapping::release(t, caller, virt, size),
-        Deed::Start {
-            core: _,
-            start: _,
-            context: _,
-        } => {}
-        Deed::Stop => {}
-        Deed::HandOver(_) => {}
-        Deed::Finish => {}
+        } => start(powers, target, address, context),
+        Deed::Stop => stop(powers, core),
+        Deed::HandOver(to) => hand_over(saved, turns, core, to, x),
+        Deed::Finish => finish(saved, turns, core, caller, x),
     }
 }
