@@ -9,8 +9,7 @@ use lib.ListN.{length, getD, drop, length-take, length-drop}
 use lib.Seq.{getD-take, getD-drop}
 use Rattle.rules.specs.Choice.{pick-yes, pick-no, either}
 use Rattle.rules.specs.declared.Reason.{Reason}
-use Rattle.identifiers.specs.declared.Parts.{Parts}
-use Rattle.registers.specs.Registers.{Whole, saved, kept, kept-whole, kept-at, kept-past, kept-other}
+use Rattle.registers.specs.Registers.{Whole, saved, kept, kept-at, kept-past, kept-other}
 use Rattle.cores.specs.Power.{turnOf, put, on, isPending, arrived-pending, handed, finished}
 use Rattle.cores.specs.Cores.{WholePowers, WholeTurns, power, powered, turn, turned, power-same, turn-same}
 use Rattle.pages.specs.Sizes.{lastWorld}
@@ -23,13 +22,14 @@ use Rattle.judging.specs.Judge.{View, calledBy}
 use Rattle.judging.specs.Grounds.{Takes, Between, Moves, Grounds, grounded}
 use Rattle.judging.specs.Grounds.Between.{toCaller, toNormal}
 use Rattle.judging.specs.declared.Answer.{Answer}
-use Rattle.judging.specs.declared.Answer.the-variants.{Version, PowerVersion, Done, On, Off, Pending, Owns, Leads, Count, Silent, No}
+use Rattle.judging.specs.declared.Answer.the-variants.{No}
 use Rattle.judging.specs.declared.Deed.{Deed}
 use Rattle.judging.specs.declared.Deed.the-variants.{Nothing, Move, Map, Unmap, Start, Stop, HandOver, Finish}
 use Rattle.rules.specs.Reasons.{minus}
-use Rattle.calls.specs.Answers.{negative, written}
-use Rattle.calls.specs.Deeds.{returned, finishNumbers}
-use Rattle.calls.specs.Step.{State, state, sight, callerOf, judgedIn, answeredIn, carriedIn, withAnswer, applied, called, Seat, startNumbers, arrivedIn, arrives}
+use Rattle.answers.specs.Answers.{negative, written, answeredIn}
+use Rattle.answers.specs.Laws.{answered-whole, answered-other, answered-listed, answered-unlisted, answered-past}
+use Rattle.deeds.specs.Deeds.{returned, finishNumbers}
+use Rattle.calls.specs.Step.{State, state, sight, callerOf, judgedIn, carriedIn, withAnswer, applied, called, Seat, startNumbers, arrivedIn, arrives}
 
 -- ---- names for a step
 -- what is done for a call
@@ -107,26 +107,6 @@ never-own v Stop g r = r
 never-own v (HandOver to) g r = ⊎-elim (λ (e : to ≡ secure). omega (arith, g .0)) (λ (e : to ≡ realm). omega (arith, g .0)) (g .1)
 never-own v Finish g r = ⊎-elim (λ (e : v .seen .caller ≡ secure). omega arith) (λ (e : v .seen .caller ≡ realm). omega arith) (g .0)
 
-written-few : (p : Parts) (a : Answer) → length (written p a) ≤ 3
-written-few p Version = omega arith
-written-few p PowerVersion = omega arith
-written-few p Done = omega arith
-written-few p On = omega arith
-written-few p Off = omega arith
-written-few p Pending = omega arith
-written-few p (Owns is) = omega arith
-written-few p (Leads phys attr) = omega arith
-written-few p (Count n) = omega arith
-written-few p Silent = omega arith
-written-few p (No r) = omega arith
-
-module _ (r : List ℕ) (core caller : ℕ) (xs : List ℕ) (a : Answer) where
-  answered-other : (c u j : ℕ) → (core ≡ c → caller ≡ u → ⊥) → saved (answeredIn r core caller xs a) c u j ≡ saved r c u j
-  answered-other c u j n = kept-other (kept r core caller xs) core caller (written (calledBy xs) a) c u j n ∙ kept-other r core caller xs c u j n
-
-  pub answered-whole : Whole r → Whole (answeredIn r core caller xs a)
-  answered-whole w = kept-whole _ core caller _ (kept-whole r core caller xs w)
-
 module _ (s : State) (core : ℕ) (xs : List ℕ) where
   saved-is : after s core xs .saved ≡ carriedIn (deedIn s core xs) (answeredAt s core xs) core (callerOf s core) xs .saved
   unfolding called applied
@@ -148,26 +128,16 @@ module _ (s : State) (core : ℕ) (xs : List ℕ) where
   -- What the answer lists stands in the caller's x0 and on.
   pub own-results : (j : ℕ) → Whole (s .saved) → core < 8 → callerOf s core < 4 → j < length (resultsIn s core xs)
       → saved (after s core xs .saved) core (callerOf s core) j ≡ getD (resultsIn s core xs) j 0
-  own-results j w h k l =
-      let few = written-few (calledBy xs) (answerIn s core xs) in
-      own-numbers j ∙ kept-at (kept (s .saved) core (callerOf s core) xs) core (callerOf s core) (resultsIn s core xs) j
-      (kept-whole (s .saved) core (callerOf s core) xs w) h k (omega arith) l
+  own-results j w h k l = own-numbers j ∙ answered-listed (s .saved) core (callerOf s core) xs (answerIn s core xs) j w h k l
 
   -- What it does not list keeps the frame's number.
   pub own-frame : (j : ℕ) → Whole (s .saved) → core < 8 → callerOf s core < 4 → j < 9 → j < length xs → length (resultsIn s core xs) ≤ j
       → saved (after s core xs .saved) core (callerOf s core) j ≡ getD xs j 0
-  own-frame j w h k l m n =
-      own-numbers j
-      ∙ kept-past (kept (s .saved) core (callerOf s core) xs) core (callerOf s core) (resultsIn s core xs) j n
-      ∙ kept-at (s .saved) core (callerOf s core) xs j w h k l m
+  own-frame j w h k l m n = own-numbers j ∙ answered-unlisted (s .saved) core (callerOf s core) xs (answerIn s core xs) j w h k l m n
 
   -- The caller's start address stays, as does every number past the frame's.
   pub own-past : (j : ℕ) → 3 ≤ j → length xs ≤ j → saved (after s core xs .saved) core (callerOf s core) j ≡ saved (s .saved) core (callerOf s core) j
-  own-past j h l =
-      let few = written-few (calledBy xs) (answerIn s core xs) in
-      own-numbers j
-      ∙ kept-past (kept (s .saved) core (callerOf s core) xs) core (callerOf s core) (resultsIn s core xs) j (omega arith)
-      ∙ kept-past (s .saved) core (callerOf s core) xs j l
+  own-past j h l = own-numbers j ∙ answered-past (s .saved) core (callerOf s core) xs (answerIn s core xs) j h l
 
   module _ (to : ℕ) (e : deedIn s core xs ≡ HandOver to) where
     pub hands : (callerOf s core ≡ normal) × Takes to

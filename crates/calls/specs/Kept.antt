@@ -27,10 +27,11 @@ use Rattle.judging.specs.Grounds.{Takes, Calls, Between, Grounds, grounded}
 use Rattle.judging.specs.Grounds.Between.{toCaller, toNormal}
 use Rattle.judging.specs.declared.Deed.{Deed}
 use Rattle.judging.specs.declared.Deed.the-variants.{Nothing, Move, Map, Unmap, Start, Stop, HandOver, Finish}
-use Rattle.calls.specs.Deeds.{Tables, withOwners, withSaved, withPowers, withTurns, withLists}
+use Rattle.answers.specs.Laws.{answered-whole}
+use Rattle.deeds.specs.Deeds.{Tables, withOwners, withSaved, withPowers, withTurns, withLists}
 use Rattle.calls.specs.Step.{State, state, sight, callerOf, tablesOf, withTables, carriedIn, applied, called}
 use Rattle.calls.specs.declared.Site.{Site}
-use Rattle.calls.specs.Effects.{deedIn, answerIn, after, afterArrival, arrival-by, answered-whole, WholeTables}
+use Rattle.calls.specs.Effects.{deedIn, answerIn, after, afterArrival, arrival-by, WholeTables}
 
 -- what a core runs, beside its power: Normal with nothing open, or Secure or Realm, where the core is ON and a hand-over is open
 pub record Seated (t : Turn) (p : Power) : Type 0 where

@@ -9,13 +9,13 @@ use Rattle.cores.specs.Cores.{power, powered, turn, turned}
 use Rattle.cores.specs.declared.Power.{Power}
 use Rattle.mapping.specs.Lists.{held}
 use Rattle.judging.specs.Names.{normal}
-use Rattle.judging.specs.Judge.{viewed, Sight, sighted, judged, calledBy}
+use Rattle.judging.specs.Judge.{viewed, Sight, sighted, judged}
 use Rattle.judging.specs.declared.Answer.{Answer}
 use Rattle.judging.specs.declared.Deed.{Deed}
 use Rattle.judging.specs.declared.Judged.{Judged}
 use Rattle.judging.specs.declared.Seen.{Seen}
-use Rattle.calls.specs.Answers.{written}
-use Rattle.calls.specs.Deeds.{Tables, tables, withSaved, carriedOut}
+use Rattle.answers.specs.Answers.{answeredIn}
+use Rattle.deeds.specs.Deeds.{Tables, tables, withSaved, carriedOut}
 use Rattle.calls.specs.declared.Site.{Site}
 use Rattle.calls.specs.declared.Made.{Made}
 
@@ -46,10 +46,6 @@ callerOf s core = turn (s .turns) core .world
 
 abbrev pub judgedIn : State → ℕ → List ℕ → Judged
 judgedIn s core xs = judged (sight s core) xs
-
--- the frame's eight numbers, and over them the answer's results
-abbrev pub answeredIn : List ℕ → ℕ → ℕ → List ℕ → Answer → List ℕ
-answeredIn r core caller xs a = kept (kept r core caller xs) core caller (written (calledBy xs) a)
 
 -- ---- a call
 abbrev pub tablesOf : State → Tables

@@ -1,0 +1,79 @@
+// What each deed does.
+ghost use mathlib.Core.Path.{_≡_};
+ghost use Rattle.registers.specs.Registers.{kept};
+ghost use Rattle.judging.specs.Names.{normal};
+ghost use Rattle.deeds.specs.Deeds.{tables, startedIn, stoppedIn, handedIn, finishedIn, finishNumbers, carriedOut};
+use cores::Powers;
+use cores::Turns;
+use judging::Deed;
+use judging::names;
+use mapping::Lists;
+use pages::Owners;
+use pages::Window;
+use registers::Saved;
+
+// The target becomes pending, with the address and the context that it is to find.
+fn start(t: &mut Powers, target: u64, address: u64, context: u64)
+    ensures { λ _. ⌜ now (t .exit) ≡ startedIn (now (t .entry)) target address context ⌝ }
+{
+    let was = cores::power_of(t, target);
+    cores::set_power(t, target, was.started(address, context));
+}
+
+// The calling core goes OFF.
+fn stop(t: &mut Powers, core: u64)
+    ensures { λ _. ⌜ now (t .exit) ≡ stoppedIn (now (t .entry)) core ⌝ }
+{
+    let was = cores::power_of(t, core);
+    cores::set_power(t, core, was.stopped());
+}
+
+// The receiver gets the caller's eight numbers, and runs.
+fn hand_over(saved: &mut Saved, turns: &mut Turns, core: u64, to: u64, x: &[u64; 8])
+    ensures { λ _. ⌜ (now (saved .exit) ≡ kept (now (saved .entry)) core to (now (x .entry))) × (now (turns .exit) ≡ handedIn (now (turns .entry)) core to) ⌝ }
+{
+    registers::keep(saved, core, to, x);
+    let was = cores::turn_of(turns, core);
+    cores::set_turn(turns, core, was.handed(to));
+}
+
+// Normal gets the finisher's x1 to x4 as its x0 to x3, and runs.
+fn finish(saved: &mut Saved, turns: &mut Turns, core: u64, caller: u64, x: &[u64; 8])
+    ensures { λ _. ⌜ (now (saved .exit) ≡ kept (now (saved .entry)) core normal (finishNumbers caller (now (x .entry)))) × (now (turns .exit) ≡ finishedIn (now (turns .entry)) core) ⌝ }
+{
+    let s: &[u64] = x;
+    registers::keep(saved, core, names::NORMAL, &s[1..5]);
+    let was = cores::turn_of(turns, core);
+    cores::set_turn(turns, core, was.finished());
+}
+
+// Carries a deed out for the world that called, with its eight numbers.
+pub fn do_deed(
+    d: Deed,
+    w: Window,
+    core: u64,
+    caller: u64,
+    x: &[u64; 8],
+    owners: &mut Owners,
+    saved: &mut Saved,
+    powers: &mut Powers,
+    turns: &mut Turns,
+    lists: &mut Lists,
+)
+    ensures { λ _. ⌜ tables (now (owners .exit)) (now (saved .exit)) (now (powers .exit)) (now (turns .exit)) (now (lists .exit)) ≡ carriedOut d w core caller (now (x .entry)) (tables (now (owners .entry)) (now (saved .entry)) (now (powers .entry)) (now (turns .entry)) (now (lists .entry))) ⌝ }
+{
+    match d {
+        Deed::Nothing => {}
+        Deed::Move { start, count, to } => transfers::carry(w, owners, start, count, to),
+        Deed::Map(m) => mapping::hold(lists, caller, m),
+        Deed::Unmap { virt, size } => mapping::release(lists, caller, virt, size),
+        Deed::Start {
+            core: target,
+            start: address,
+            context,
+        } => start(powers, target, address, context),
+        Deed::Stop => stop(powers, core),
+        Deed::HandOver(to) => hand_over(saved, turns, core, to, x),
+        Deed::Finish => finish(saved, turns, core, caller, x),
+    }
+}
