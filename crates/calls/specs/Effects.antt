@@ -26,7 +26,7 @@ use Rattle.judging.specs.declared.Answer.the-variants.{No}
 use Rattle.judging.specs.declared.Deed.{Deed}
 use Rattle.judging.specs.declared.Deed.the-variants.{Nothing, Move, Map, Unmap, Start, Stop, HandOver, Finish}
 use Rattle.rules.specs.Reasons.{minus}
-use Rattle.answers.specs.Answers.{negative, written, answeredIn}
+use Rattle.answers.specs.Answers.{negative, written}
 use Rattle.answers.specs.Laws.{answered-whole, answered-other, answered-listed, answered-unlisted, answered-past}
 use Rattle.deeds.specs.Deeds.{returned, finishNumbers}
 use Rattle.calls.specs.Step.{State, state, sight, callerOf, judgedIn, carriedIn, withAnswer, applied, called, Seat, startNumbers, arrivedIn, arrives}
@@ -44,11 +44,7 @@ answerIn s core xs = judgedIn s core xs .answer
 abbrev pub resultsIn : State → ℕ → List ℕ → List ℕ
 resultsIn s core xs = written (calledBy xs) (answerIn s core xs)
 
--- the saved numbers once the call is answered: the frame's, and over them the results
-abbrev pub answeredBy : State → ℕ → List ℕ → List ℕ
-answeredBy s core xs = answeredIn (s .saved) core (callerOf s core) xs (answerIn s core xs)
-
--- the state once the call is answered, with its deed still to do
+-- the state once the call is answered, before its deed is carried out
 abbrev pub answeredAt : State → ℕ → List ℕ → State
 answeredAt s core xs = withAnswer (answerIn s core xs) s core (callerOf s core) xs
 
@@ -120,7 +116,7 @@ module _ (s : State) (core : ℕ) (xs : List ℕ) where
       ∙ answered-other (s .saved) core (callerOf s core) xs (answerIn s core xs) c u j n)
 
   -- The caller's numbers are the frame's, and over them the results: no deed writes them.
-  pub own-numbers : (j : ℕ) → saved (after s core xs .saved) core (callerOf s core) j ≡ saved (answeredBy s core xs) core (callerOf s core) j
+  own-numbers : (j : ℕ) → saved (after s core xs .saved) core (callerOf s core) j ≡ saved (answeredAt s core xs .saved) core (callerOf s core) j
   own-numbers j =
       rw saved-is (deed-spares (deedIn s core xs) (answeredAt s core xs) core (callerOf s core) xs core (callerOf s core) j
       (λ e. never-own (sight s core .view) (deedIn s core xs) (grounded (sight s core) xs .stands)))
@@ -147,12 +143,12 @@ module _ (s : State) (core : ℕ) (xs : List ℕ) where
     pub handed-numbers : (j : ℕ) → Whole (s .saved) → core < 8 → length xs ≡ 8 → j < 8 → saved (after s core xs .saved) core to j ≡ getD xs j 0
     handed-numbers j w h l k =
         let t : to < 4 = ⊎-elim (λ (y : to ≡ secure). omega arith) (λ (y : to ≡ realm). omega arith) (hands .1) in
-        rw (saved-is, e) (kept-at (answeredBy s core xs) core to xs j (answered-whole (s .saved) core (callerOf s core) xs (answerIn s core xs) w) h t (omega arith) (omega arith))
+        rw (saved-is, e) (kept-at (answeredAt s core xs .saved) core to xs j (answered-whole (s .saved) core (callerOf s core) xs (answerIn s core xs) w) h t (omega arith) (omega arith))
 
     -- The receiver's other numbers stay.
     pub handed-rest : (j : ℕ) → length xs ≤ j → saved (after s core xs .saved) core to j ≡ saved (s .saved) core to j
     handed-rest j l =
-        rw (saved-is, e) (kept-past (answeredBy s core xs) core to xs j l
+        rw (saved-is, e) (kept-past (answeredAt s core xs .saved) core to xs j l
         ∙ answered-other (s .saved) core (callerOf s core) xs (answerIn s core xs) core to j
         (λ y z. ⊎-elim (λ (y : to ≡ secure). omega (arith, hands .0)) (λ (y : to ≡ realm). omega (arith, hands .0)) (hands .1)))
 
@@ -164,7 +160,7 @@ module _ (s : State) (core : ℕ) (xs : List ℕ) where
     pub finished-numbers : (j : ℕ) → Whole (s .saved) → core < 8 → length xs ≡ 8 → j < returned (callerOf s core) → saved (after s core xs .saved) core normal j ≡ getD xs (1 + j) 0
     finished-numbers j w h l k =
         let n : length (finishNumbers (callerOf s core) xs) ≡ returned (callerOf s core) = simp (length-take, length-drop) (omega arith) in
-        rw (saved-is, e) (kept-at (answeredBy s core xs) core normal (finishNumbers (callerOf s core) xs) j
+        rw (saved-is, e) (kept-at (answeredAt s core xs .saved) core normal (finishNumbers (callerOf s core) xs) j
         (answered-whole (s .saved) core (callerOf s core) xs (answerIn s core xs) w) h (omega arith) (omega arith) (omega arith)
         ∙ getD-take (returned (callerOf s core)) (drop 1 xs) j 0 k ∙ getD-drop 1 xs j 0)
 
@@ -172,7 +168,7 @@ module _ (s : State) (core : ℕ) (xs : List ℕ) where
     pub finished-rest : (j : ℕ) → returned (callerOf s core) ≤ j → saved (after s core xs .saved) core normal j ≡ saved (s .saved) core normal j
     finished-rest j l =
         let n : length (finishNumbers (callerOf s core) xs) ≤ returned (callerOf s core) = simp (length-take, length-drop) (omega arith) in
-        rw (saved-is, e) (kept-past (answeredBy s core xs) core normal (finishNumbers (callerOf s core) xs) j (omega arith)
+        rw (saved-is, e) (kept-past (answeredAt s core xs .saved) core normal (finishNumbers (callerOf s core) xs) j (omega arith)
         ∙ answered-other (s .saved) core (callerOf s core) xs (answerIn s core xs) core normal j
         (λ y z. ⊎-elim (λ (k : callerOf s core ≡ secure). omega arith) (λ (k : callerOf s core ≡ realm). omega arith) (finishes .0)))
 
@@ -247,7 +243,7 @@ abbrev seated : State → Seat × Bool → State × Bool
 seated s a = (state (s .site) (s .ledger) (s .owners) (a .0 .saved) (a .0 .powers) (a .0 .turns) (s .lists), a .1)
 
 -- the state once a pending core has come: ON, in Normal, with the numbers of its start
-abbrev pub comeIn : State → ℕ → State
+abbrev comeIn : State → ℕ → State
 comeIn s core =
     state (s .site) (s .ledger) (s .owners)
     (kept (s .saved) core normal (startNumbers (power (s .powers) core)))
@@ -257,17 +253,17 @@ comeIn s core =
 
 module _ (s : State) (core : ℕ) where
   -- Where the core is not pending, nothing changes.
-  pub arrival-away : isPending (power (s .powers) core) ≡ false → arrives s core ≡ (s, false)
+  arrival-away : isPending (power (s .powers) core) ≡ false → arrives s core ≡ (s, false)
   unfolding arrivedIn
   arrival-away n = ap (seated s) (pick-no _ _ _ n)
 
   -- A pending core comes.
-  pub arrival-comes : isPending (power (s .powers) core) ≡ true → arrives s core ≡ (comeIn s core, true)
+  arrival-comes : isPending (power (s .powers) core) ≡ true → arrives s core ≡ (comeIn s core, true)
   unfolding arrivedIn
   arrival-comes y = ap (seated s) (pick-yes _ _ _ y) ∙ rw (arrived-pending (power (s .powers) core) y)
 
   -- what holds once the core has come holds after the arrival of a pending one
-  pub arrived-by : (P : State → Type 0) → isPending (power (s .powers) core) ≡ true → P (comeIn s core) → P (afterArrival s core)
+  arrived-by : (P : State → Type 0) → isPending (power (s .powers) core) ≡ true → P (comeIn s core) → P (afterArrival s core)
   arrived-by P y h = subst (λ (a : State × Bool). P (a .0)) (sym (arrival-comes y)) h
 
   -- what holds of the state before, and once the core has come, holds after an arrival

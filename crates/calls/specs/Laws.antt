@@ -1,7 +1,7 @@
 -- How the code's branches meet the definitions of Step.
 use mathlib.Core.Path.{_≡_, sym, ap, _∙_}
 use mathlib.Core.Bool.{true, false, not}
-use mathlib.Core.List.{List, [], _∷_}
+use mathlib.Core.List.{List}
 use Prim.Native.Nat.{ℕ}
 use borrow.Author.Tests.{not-true, not-false}
 use Rattle.rules.specs.Choice.{pick-yes, pick-no}
@@ -18,7 +18,7 @@ use Rattle.judging.specs.declared.Judged.{Judged}
 use Rattle.judging.specs.declared.Seen.{Seen}
 use Rattle.answers.specs.Answers.{answeredIn}
 use Rattle.deeds.specs.Deeds.{Tables, tables, carriedOut}
-use Rattle.calls.specs.Step.{state, seenBy, withTables, applied, called, seat, arrivedIn}
+use Rattle.calls.specs.Step.{state, seenBy, withTables, applied, called, seat, startNumbers, arrivedIn}
 use Rattle.calls.specs.declared.Site.{Site}
 
 -- ---- the whole call, from what each part ensures
@@ -41,15 +41,14 @@ module _ (r p t : List ℕ) (core : ℕ) (x : Power) (y : Arriving) (was : x ≡
       sym (pick-no _ _ _ n)
 
   pub comes : (r′ p′ t′ : List ℕ) (z u : Turn) → not (y .came) ≡ false → p′ ≡ powered p core (y .power) → z ≡ turn t core → u ≡ entered z → t′ ≡ turned t core u
-      → r′ ≡ kept r core normal (y .power .context ∷ 0 ∷ 0 ∷ 0 ∷ 0 ∷ 0 ∷ 0 ∷ 0 ∷ y .power .start ∷ [])
+      → r′ ≡ kept r core normal (startNumbers (y .power))
       → (seat r′ p′ t′, true) ≡ arrivedIn (seat r p t) core
   unfolding arrivedIn
   comes r′ p′ t′ z u e ep ez eu et er =
       let n : isPending (power p core) ≡ true = not-false (isPending (power p core)) (rw (is, was) at e) in
       let a : y .power ≡ arrived (power p core) = rw (is, was) in
-      let b : y .power .context ≡ power p core .context = rw (a, arrived-pending (power p core) n) in
-      let d : y .power .start ≡ power p core .start = rw (a, arrived-pending (power p core) n) in
+      let b : startNumbers (y .power) ≡ startNumbers (power p core) = rw (a, arrived-pending (power p core) n) in
       let f : p′ ≡ powered p core (arrived (power p core)) = ep ∙ ap (powered p core) a in
-      sym (pick-yes _ _ _ n ∙ rw (er, f, et, eu, b, d))
+      sym (pick-yes _ _ _ n ∙ rw (er, f, et, eu, b))
 
 pub ruleset arrivals = (stays-away, comes)

@@ -28,23 +28,28 @@ fn stop(t: &mut Powers, core: u64)
     cores::set_power(t, core, was.stopped());
 }
 
-// The receiver gets the caller's eight numbers, and runs.
-fn hand_over(saved: &mut Saved, turns: &mut Turns, core: u64, to: u64, x: &[u64; 8])
-    ensures { λ _. ⌜ (now (saved .exit) ≡ kept (now (saved .entry)) core to (now (x .entry))) × (now (turns .exit) ≡ handedIn (now (turns .entry)) core to) ⌝ }
+// The receiver runs.
+fn hand_over(t: &mut Turns, core: u64, to: u64)
+    ensures { λ _. ⌜ now (t .exit) ≡ handedIn (now (t .entry)) core to ⌝ }
 {
-    registers::keep(saved, core, to, x);
-    let was = cores::turn_of(turns, core);
-    cores::set_turn(turns, core, was.handed(to));
+    let was = cores::turn_of(t, core);
+    cores::set_turn(t, core, was.handed(to));
 }
 
-// Normal gets the finisher's x1 to x4 as its x0 to x3, and runs.
-fn finish(saved: &mut Saved, turns: &mut Turns, core: u64, caller: u64, x: &[u64; 8])
-    ensures { λ _. ⌜ (now (saved .exit) ≡ kept (now (saved .entry)) core normal (finishNumbers caller (now (x .entry)))) × (now (turns .exit) ≡ finishedIn (now (turns .entry)) core) ⌝ }
+// Normal runs.
+fn finish(t: &mut Turns, core: u64)
+    ensures { λ _. ⌜ now (t .exit) ≡ finishedIn (now (t .entry)) core ⌝ }
+{
+    let was = cores::turn_of(t, core);
+    cores::set_turn(t, core, was.finished());
+}
+
+// Normal gets the finisher's x1 to x4 as its x0 to x3.
+fn give_back(t: &mut Saved, core: u64, caller: u64, x: &[u64; 8])
+    ensures { λ _. ⌜ now (t .exit) ≡ kept (now (t .entry)) core normal (finishNumbers caller (now (x .entry))) ⌝ }
 {
     let s: &[u64] = x;
-    registers::keep(saved, core, names::NORMAL, &s[1..5]);
-    let was = cores::turn_of(turns, core);
-    cores::set_turn(turns, core, was.finished());
+    registers::keep(t, core, names::NORMAL, &s[1..5]);
 }
 
 // Carries a deed out for the world that called, with its eight numbers.
@@ -73,7 +78,13 @@ pub fn do_deed(
             context,
         } => start(powers, target, address, context),
         Deed::Stop => stop(powers, core),
-        Deed::HandOver(to) => hand_over(saved, turns, core, to, x),
-        Deed::Finish => finish(saved, turns, core, caller, x),
+        Deed::HandOver(to) => {
+            registers::keep(saved, core, to, x);
+            hand_over(turns, core, to);
+        }
+        Deed::Finish => {
+            give_back(saved, core, caller, x);
+            finish(turns, core);
+        }
     }
 }

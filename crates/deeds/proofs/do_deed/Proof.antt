@@ -40,11 +40,17 @@ stop-requires c κs = search needs
 enum-known-d-5 : tie.Need-enum-known-d-5
 enum-known-d-5 c = search needs
 
+keep-requires : tie.Need-keep-requires
+keep-requires c κs = search needs
+
 hand-over-requires : tie.Need-hand-over-requires
 hand-over-requires c κs = search needs
 
 enum-told-3 : tie.Need-enum-told-3
 enum-told-3 c = search needs
+
+give-back-requires : tie.Need-give-back-requires
+give-back-requires c κs = search needs
 
 finish-requires : tie.Need-finish-requires
 finish-requires c κs = search needs
@@ -89,8 +95,10 @@ do-deed-spec =
     enum-told-2
     stop-requires
     enum-known-d-5
+    keep-requires
     hand-over-requires
     enum-told-3
+    give-back-requires
     finish-requires
     returns
     returns-2

@@ -1,20 +1,8 @@
--- The part from x1 on is kept as `keep` promises, and what the core runs is read, finished and stored.
+-- What is read of the core, finished and stored is the table with the core finished.
 use borrow.Author.Needs.{needs}
 use Rattle.deeds.specs.Laws.{changes}
 use Rattle.deeds.proofs.finish.Statement.{statement}
 use Rattle.deeds.proofs.finish.Tie as tie
-
-sub-keep : tie.Need-sub-keep
-sub-keep c = search needs
-
-part-keep-start : tie.Need-part-keep-start
-part-keep-start c = search needs
-
-part-keep-end : tie.Need-part-keep-end
-part-keep-end c = search needs
-
-keep-requires : tie.Need-keep-requires
-keep-requires c κs = search needs
 
 turn-of-requires : tie.Need-turn-of-requires
 turn-of-requires c κs = search needs
@@ -29,14 +17,4 @@ returns : tie.Need-returns
 returns c = search (needs, changes)
 
 pub finish-spec : {M : Type 1} → statement M
-finish-spec =
-    tie.close
-    (tie.spec
-    sub-keep
-    part-keep-start
-    part-keep-end
-    keep-requires
-    turn-of-requires
-    finished-requires
-    set-turn-requires
-    returns)
+finish-spec = tie.close (tie.spec turn-of-requires finished-requires set-turn-requires returns)

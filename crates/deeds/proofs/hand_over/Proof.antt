@@ -1,11 +1,8 @@
--- The numbers are kept as `keep` promises, and what the core runs is read, handed over and stored.
+-- What is read of the core, handed over and stored is the table with the core handed over.
 use borrow.Author.Needs.{needs}
 use Rattle.deeds.specs.Laws.{changes}
 use Rattle.deeds.proofs.hand_over.Statement.{statement}
 use Rattle.deeds.proofs.hand_over.Tie as tie
-
-keep-requires : tie.Need-keep-requires
-keep-requires c κs = search needs
 
 turn-of-requires : tie.Need-turn-of-requires
 turn-of-requires c κs = search needs
@@ -20,5 +17,4 @@ returns : tie.Need-returns
 returns c = search (needs, changes)
 
 pub hand-over-spec : {M : Type 1} → statement M
-hand-over-spec =
-    tie.close (tie.spec keep-requires turn-of-requires handed-requires set-turn-requires returns)
+hand-over-spec = tie.close (tie.spec turn-of-requires handed-requires set-turn-requires returns)
