@@ -1,5 +1,5 @@
 -- What holds of the state at every time after set-up, and that every call and every arrival keeps it.
-use mathlib.Core.Path.{_≡_, refl, sym, _∙_}
+use mathlib.Core.Path.{_≡_, refl}
 use mathlib.Core.Bool.{true, false}
 use mathlib.Core.List.{List}
 use mathlib.Core.Logic.{inl, inr, ⊎-elim}
@@ -8,28 +8,30 @@ use native.Mathlib.Omega.{arith}
 use lib.Dec.{eqb, ltb}
 use borrow.Author.Tests.{eqb-true, eqb-false, ltb-true, ltb-false}
 use Rattle.rules.specs.Choice.{either, yes-or-no}
-use Rattle.cores.specs.Power.{turnOf, put, off, pending, on, isOn, isPending, started, stopped, handed, finished}
-use Rattle.registers.specs.Registers.{zeros, zeros-whole}
-use Rattle.cores.specs.Cores.{power, turn, power-other, turn-same, turn-other, firstPowers, firstTurns, first-powers-whole, first-power-other, first-turns-whole, first-turn}
+use Rattle.registers.specs.Registers.{Whole, kept-whole, zeros, zeros-whole}
+use Rattle.cores.specs.Power.{turnOf, off, pending, on, isOn, isPending}
+use Rattle.cores.specs.Cores.{power, powered, powered-whole, turn, turned, turned-whole, power-other, turn-same, turn-other, firstPowers, firstTurns, first-powers-whole, first-power-other, first-turns-whole, first-turn}
 use Rattle.cores.specs.declared.Power.{Power}
 use Rattle.cores.specs.declared.Turn.{Turn}
 use Rattle.pages.specs.Sizes.{lastWorld}
 use Rattle.pages.specs.Window.{acceptable}
 use Rattle.pages.specs.Owners.{WholeOwners, owner}
-use Rattle.mapping.specs.Lists.{unmapped, unmapped-whole, held, held-unmapped, holding, holding-other, holding-inserts, released-other, released-takes}
+use Rattle.mapping.specs.Lists.{WholeLists, holding-whole, released-whole, unmapped, unmapped-whole, held, held-unmapped, holding, holding-other, holding-inserts, released-other, released-takes}
 use Rattle.mapping.specs.Sound.{Sound, sound-none, granted-room, granted-formed, granted-keeps, without-keeps}
 use Rattle.mapping.specs.declared.Mapping.{Mapping}
 use Rattle.transfers.specs.Transfer.{moveVerdict, carried}
-use Rattle.transfers.specs.Kept.{carried-keeps, carried-worlds}
+use Rattle.transfers.specs.Kept.{carried-whole, carried-keeps, carried-worlds}
 use Rattle.transfers.specs.declared.Verdict.the-variants as Moving
 use Rattle.judgements.specs.Names.{secure, normal, realm}
 use Rattle.judgements.specs.Grounds.{Takes, Calls, Between, Grounds, grounded}
 use Rattle.judgements.specs.Grounds.Between.{toCaller, toNormal}
 use Rattle.judgements.specs.declared.Deed.{Deed}
 use Rattle.judgements.specs.declared.Deed.the-variants.{Nothing, Move, Map, Unmap, Start, Stop, HandOver, Finish}
-use Rattle.calls.specs.Step.{State, state, sight, callerOf, ownersBy, powersBy, turnsBy, listsBy, applied, called}
+use Rattle.answers.specs.Laws.{answered-whole}
+use Rattle.deeds.specs.Deeds.{Tables, withOwners, withSaved, withPowers, withTurns, withLists}
+use Rattle.calls.specs.Step.{State, state, sight, callerOf, tablesOf, withTables, carriedIn, applied, called}
 use Rattle.calls.specs.declared.Site.{Site}
-use Rattle.calls.specs.Effects.{deedIn, after, afterArrival, comeIn, arrival-by, WholeTables, called-whole, come-whole}
+use Rattle.calls.specs.Effects.{deedIn, answerIn, after, afterArrival, arrival-by, WholeTables}
 
 -- what a core runs, beside its power: Normal with nothing open, or Secure or Realm, where the core is ON and a hand-over is open
 pub record Seated (t : Turn) (p : Power) : Type 0 where
@@ -86,55 +88,58 @@ on-exists s r core e =
     either (ltb core (s .site .cores)) (ltb-true _ _)
     (λ n. let a = r .absent core (ltb-false _ _ n) in let b = eqb-true (power (s .powers) core .state) on e in absurd (omega arith))
 
+-- ---- a right state with other tables: what they have to be
+module _ (s : State) (r : Right s) where
+  right-with : (t : Tables) → WholeTables (withTables s t) → ((page : ℕ) → owner (t .owners) page ≤ lastWorld)
+      → ((world : ℕ) → Sound (s .site .window) (t .owners) world (held (t .lists) world))
+      → ((core : ℕ) → core < 8 → Seated (turn (t .turns) core) (power (t .powers) core))
+      → ((core : ℕ) → s .site .cores ≤ core → power (t .powers) core .state ≡ off)
+      → Right (withTables s t)
+  right-with t whole worlds sound seated absent =
+      record { window = r .window; some-cores = r .some-cores; most-cores = r .most-cores; whole = whole; worlds = worlds; sound = sound; seated = seated; absent = absent }
+
+  right-owners : (o : List ℕ) → WholeOwners o → ((page : ℕ) → owner o page ≤ lastWorld) → ((world : ℕ) → Sound (s .site .window) o world (held (s .lists) world))
+      → Right (withTables s (withOwners (tablesOf s) o))
+  right-owners o h worlds sound =
+      right-with (withOwners (tablesOf s) o)
+      (record { owners-whole = h; saved-whole = r .whole .saved-whole; powers-whole = r .whole .powers-whole; turns-whole = r .whole .turns-whole; lists-whole = r .whole .lists-whole })
+      worlds sound (r .seated) (r .absent)
+
+  right-saved : (n : List ℕ) → Whole n → Right (withTables s (withSaved (tablesOf s) n))
+  right-saved n h =
+      right-with (withSaved (tablesOf s) n)
+      (record { owners-whole = r .whole .owners-whole; saved-whole = h; powers-whole = r .whole .powers-whole; turns-whole = r .whole .turns-whole; lists-whole = r .whole .lists-whole })
+      (r .worlds) (r .sound) (r .seated) (r .absent)
+
+  right-lists : (m : List ℕ) → WholeLists m → ((world : ℕ) → Sound (s .site .window) (s .owners) world (held m world)) → Right (withTables s (withLists (tablesOf s) m))
+  right-lists m h sound =
+      right-with (withLists (tablesOf s) m)
+      (record { owners-whole = r .whole .owners-whole; saved-whole = r .whole .saved-whole; powers-whole = r .whole .powers-whole; turns-whole = r .whole .turns-whole; lists-whole = h })
+      (r .worlds) sound (r .seated) (r .absent)
+
+  -- one core's power: what the core runs has to be able to run at it
+  right-power : (k : ℕ) (p : Power) → k < s .site .cores → (Seated (turn (s .turns) k) (power (s .powers) k) → Seated (turn (s .turns) k) (power (powered (s .powers) k p) k))
+      → Right (withTables s (withPowers (tablesOf s) (powered (s .powers) k p)))
+  right-power k p exists may =
+      right-with (withPowers (tablesOf s) (powered (s .powers) k p))
+      (record { owners-whole = r .whole .owners-whole; saved-whole = r .whole .saved-whole; powers-whole = powered-whole _ k p (r .whole .powers-whole); turns-whole = r .whole .turns-whole; lists-whole = r .whole .lists-whole })
+      (r .worlds) (r .sound)
+      (λ c h. same-or-other c k (λ e. rw e (may (rw e at (r .seated c h)))) (λ n. rw (power-other (s .powers) k p c n) (r .seated c h)))
+      (λ c h. rw (power-other (s .powers) k p c (λ e. omega arith)) (r .absent c h))
+
+  -- what one core runs
+  right-turn : (k : ℕ) (t : Turn) → k < 8 → Seated t (power (s .powers) k) → Right (withTables s (withTurns (tablesOf s) (turned (s .turns) k t)))
+  right-turn k t inside may =
+      right-with (withTurns (tablesOf s) (turned (s .turns) k t))
+      (record { owners-whole = r .whole .owners-whole; saved-whole = r .whole .saved-whole; powers-whole = r .whole .powers-whole; turns-whole = turned-whole _ k t (r .whole .turns-whole); lists-whole = r .whole .lists-whole })
+      (r .worlds) (r .sound)
+      (λ c h. same-or-other c k (λ e. rw (e, turn-same (s .turns) k t (r .whole .turns-whole) inside) may) (λ n. rw (turn-other (s .turns) k t c n) (r .seated c h)))
+      (r .absent)
+
 -- ---- a deed that has its grounds, done for a core that is ON
 module _ (s : State) (r : Right s) (core : ℕ) (ready : isOn (power (s .powers) core) ≡ true) where
   inside : core < 8
   inside = let h = on-exists s r core ready in omega (arith, r .most-cores)
-
-  deed-seated : (d : Deed) → Grounds (sight s core .view) d → (c : ℕ) → c < 8
-      → Seated (turn (turnsBy d (s .turns) core) c) (power (powersBy d (s .powers) core) c)
-  deed-seated Nothing g c h = r .seated c h
-  deed-seated (Move start count to) g c h = r .seated c h
-  deed-seated (Map m) g c h = r .seated c h
-  deed-seated (Unmap virt size) g c h = r .seated c h
-  deed-seated (Start k a x) g c h =
-      same-or-other c k
-      (λ e. off-seated (turn (s .turns) c) (power (s .powers) c) (r .seated c h) _ (rw e (g .not-on)))
-      (λ n. rw (power-other (s .powers) k (started (power (s .powers) k) a x) c n) (r .seated c h))
-  deed-seated Stop g c h =
-      same-or-other c core
-      (λ e. home-seated (turn (s .turns) c) (power (s .powers) c) (r .seated c h) _ (rw e g))
-      (λ n. rw (power-other (s .powers) core (stopped (power (s .powers) core)) c n) (r .seated c h))
-  deed-seated (HandOver to) g c h =
-      same-or-other c core
-      (λ e. rw (e, turn-same (s .turns) core (handed (turn (s .turns) core) to) (r .whole .turns-whole) inside) (handed-seated to _ (g .1) ready))
-      (λ n. rw (turn-other (s .turns) core (handed (turn (s .turns) core) to) c n) (r .seated c h))
-  deed-seated Finish g c h =
-      same-or-other c core
-      (λ e. rw (e, turn-same (s .turns) core (finished (turn (s .turns) core)) (r .whole .turns-whole) inside) (normal-seated _))
-      (λ n. rw (turn-other (s .turns) core (finished (turn (s .turns) core)) c n) (r .seated c h))
-
-  deed-absent : (d : Deed) → Grounds (sight s core .view) d → (c : ℕ) → s .site .cores ≤ c → power (powersBy d (s .powers) core) c .state ≡ off
-  deed-absent Nothing g c h = r .absent c h
-  deed-absent (Move start count to) g c h = r .absent c h
-  deed-absent (Map m) g c h = r .absent c h
-  deed-absent (Unmap virt size) g c h = r .absent c h
-  deed-absent (Start k a x) g c h =
-      rw (power-other (s .powers) k (started (power (s .powers) k) a x) c (λ e. omega (arith, g .exists))) (r .absent c h)
-  deed-absent Stop g c h =
-      rw (power-other (s .powers) core (stopped (power (s .powers) core)) c (λ e. omega (arith, on-exists s r core ready))) (r .absent c h)
-  deed-absent (HandOver to) g c h = r .absent c h
-  deed-absent Finish g c h = r .absent c h
-
-  deed-worlds : (d : Deed) (page : ℕ) → owner (ownersBy d (s .site .window) (s .owners)) page ≤ lastWorld
-  deed-worlds Nothing page = r .worlds page
-  deed-worlds (Move start count to) page = carried-worlds (s .site .window) (s .owners) start count to (r .whole .owners-whole) (r .worlds) page
-  deed-worlds (Map m) page = r .worlds page
-  deed-worlds (Unmap virt size) page = r .worlds page
-  deed-worlds (Start k a x) page = r .worlds page
-  deed-worlds Stop page = r .worlds page
-  deed-worlds (HandOver to) page = r .worlds page
-  deed-worlds Finish page = r .worlds page
 
   -- giver and taker hold the lists that the judgement looked at
   move-sound : (start count from to : ℕ) (list : List Mapping) → Between (sight s core .view) from to list
@@ -143,76 +148,51 @@ module _ (s : State) (r : Right s) (core : ℕ) (ready : isOn (power (s .powers)
   move-sound start count from to list toCaller v = carried-keeps (s .site .window) (s .owners) (held (s .lists)) normal start count _ (r .window) v (r .sound)
   move-sound start count from to list toNormal v = carried-keeps (s .site .window) (s .owners) (held (s .lists)) (callerOf s core) start count normal (r .window) v (r .sound)
 
-  deed-sound : (d : Deed) → Grounds (sight s core .view) d → (world : ℕ)
-      → Sound (s .site .window) (ownersBy d (s .site .window) (s .owners)) world (held (listsBy d (s .lists) (callerOf s core)) world)
-  deed-sound Nothing g world = r .sound world
-  deed-sound (Move start count to) g world = move-sound start count (g .from) to (g .list) (g .between) (g .verdict) world
-  deed-sound (Map m) g world =
-      same-or-other world (callerOf s core)
+  deed-right : (d : Deed) → Grounds (sight s core .view) d → (xs : List ℕ) → Right (carriedIn d s core (callerOf s core) xs)
+  deed-right Nothing g xs = r
+  deed-right (Move start count to) g xs =
+      right-owners s r _ (carried-whole _ _ start count to (r .whole .owners-whole))
+      (carried-worlds (s .site .window) (s .owners) start count to (r .whole .owners-whole) (r .worlds))
+      (move-sound start count (g .from) to (g .list) (g .between) (g .verdict))
+  deed-right (Map m) g xs =
+      right-lists s r _ (holding-whole _ (callerOf s core) m (r .whole .lists-whole))
+      (λ world. same-or-other world (callerOf s core)
       (λ e. rw e (granted-keeps (s .site .window) (s .owners) (callerOf s core) (held (s .lists) (callerOf s core)) (held (holding (s .lists) (callerOf s core) m) (callerOf s core)) m
       (r .window) (g .verdict)
       (holding-inserts (s .lists) (callerOf s core) m (r .whole .lists-whole) (is-world (callerOf s core) (g .caller))
       (λ z. omega (arith, granted-formed (s .site .window) (r .window) (held (s .lists) (callerOf s core)) (s .owners) (callerOf s core) m (g .verdict) .some))
       (granted-room (s .site .window) (r .window) (held (s .lists) (callerOf s core)) (s .owners) (callerOf s core) m (g .verdict)))
       (r .sound (callerOf s core))))
-      (λ n. rw (holding-other (s .lists) (callerOf s core) m world n) (r .sound world))
-  deed-sound (Unmap virt size) g world =
-      same-or-other world (callerOf s core)
+      (λ n. rw (holding-other (s .lists) (callerOf s core) m world n) (r .sound world)))
+  deed-right (Unmap virt size) g xs =
+      right-lists s r _ (released-whole _ (callerOf s core) virt size (r .whole .lists-whole))
+      (λ world. same-or-other world (callerOf s core)
       (λ e. rw (e, released-takes (s .lists) (callerOf s core) virt size (r .whole .lists-whole))
       (without-keeps (s .site .window) (s .owners) (callerOf s core) (held (s .lists) (callerOf s core)) virt size (r .sound (callerOf s core))))
-      (λ n. rw (released-other (s .lists) (callerOf s core) virt size world n) (r .sound world))
-  deed-sound (Start k a x) g world = r .sound world
-  deed-sound Stop g world = r .sound world
-  deed-sound (HandOver to) g world = r .sound world
-  deed-sound Finish g world = r .sound world
+      (λ n. rw (released-other (s .lists) (callerOf s core) virt size world n) (r .sound world)))
+  deed-right (Start k a x) g xs = right-power s r k _ (g .exists) (λ t. off-seated _ _ t _ (g .not-on))
+  deed-right Stop g xs = right-power s r core _ (on-exists s r core ready) (λ t. home-seated _ _ t _ g)
+  deed-right (HandOver to) g xs = right-turn _ (right-saved s r _ (kept-whole _ core to xs (r .whole .saved-whole))) core _ inside (handed-seated to _ (g .1) ready)
+  deed-right Finish g xs = right-turn _ (right-saved s r _ (kept-whole _ core normal _ (r .whole .saved-whole))) core _ inside (normal-seated _)
 
-  -- A call from a core that is ON keeps the state right.
-  pub called-right : (xs : List ℕ) → Right (after s core xs)
-  unfolding called applied
-  called-right xs =
-      let d = deedIn s core xs in
-      let g = grounded (sight s core) xs .stands in
-      record {
-        window = r .window;
-        some-cores = r .some-cores;
-        most-cores = r .most-cores;
-        whole = called-whole s core xs (r .whole);
-        worlds = deed-worlds d;
-        sound = deed-sound d g;
-        seated = deed-seated d g;
-        absent = deed-absent d g;
-      }
-
--- ---- an arrival
+-- ---- the two steps
 module _ (s : State) (r : Right s) (core : ℕ) where
-  come-seated : (c : ℕ) → c < 8 → Seated (turn (comeIn s core .turns) c) (power (comeIn s core .powers) c)
-  come-seated c h =
-      same-or-other c core
-      (λ e. let k : core < 8 = omega arith in
-      rw (e, turn-same (s .turns) core (turnOf normal false) (r .whole .turns-whole) k) (normal-seated _))
-      (λ n. rw (turn-other (s .turns) core (turnOf normal false) c n, power-other (s .powers) core (put (power (s .powers) core) on) c n) (r .seated c h))
-
-  come-absent : isPending (power (s .powers) core) ≡ true → (c : ℕ) → s .site .cores ≤ c → power (comeIn s core .powers) c .state ≡ off
-  unfolding isPending
-  come-absent y c h =
-      let was : power (s .powers) core .state ≡ pending = eqb-true (power (s .powers) core .state) pending y in
-      let is : power (s .powers) c .state ≡ off = r .absent c h in
-      rw (power-other (s .powers) core (put (power (s .powers) core) on) c (λ e. let z : _≡_ {A = ℕ} 0 1 = sym is ∙ rw e was in omega arith)) is
+  -- A call from a core that is ON keeps the state right.
+  pub called-right : isOn (power (s .powers) core) ≡ true → (xs : List ℕ) → Right (after s core xs)
+  unfolding called applied
+  called-right ready xs =
+      deed-right _ (right-saved s r _ (answered-whole (s .saved) core (callerOf s core) xs (answerIn s core xs) (r .whole .saved-whole))) core ready
+      (deedIn s core xs) (grounded (sight s core) xs .stands) xs
 
   -- An arrival keeps the state right.
   pub arrival-right : Right (afterArrival s core)
+  unfolding isPending isOn
   arrival-right =
       arrival-by s core Right r
-      (λ y. record {
-        window = r .window;
-        some-cores = r .some-cores;
-        most-cores = r .most-cores;
-        whole = come-whole s core (r .whole);
-        worlds = r .worlds;
-        sound = r .sound;
-        seated = come-seated;
-        absent = come-absent y;
-      })
+      (λ y. let was : power (s .powers) core .state ≡ pending = eqb-true (power (s .powers) core .state) pending y in
+      let exists : core < s .site .cores = either (ltb core (s .site .cores)) (ltb-true _ _) (λ n. let a = r .absent core (ltb-false _ _ n) in absurd (omega arith)) in
+      right-turn _ (right-power _ (right-saved s r _ (kept-whole _ core normal _ (r .whole .saved-whole))) core _ exists (λ t. off-seated _ _ t _ (rw was)))
+      core _ (omega (arith, r .most-cores)) (normal-seated _))
 
 -- ---- the start
 -- The state that set-up leaves is right: no number saved, core 0 ON in Normal, the others OFF, and no mapping.

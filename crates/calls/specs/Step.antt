@@ -2,24 +2,20 @@
 use mathlib.Core.Bool.{Bool, true, false}
 use mathlib.Core.List.{List, [], _∷_}
 use Prim.Native.Nat.{ℕ}
-use lib.ListN.{take, drop}
 use Rattle.rules.specs.Choice.{pick}
 use Rattle.registers.specs.Registers.{kept}
-use Rattle.cores.specs.Power.{started, stopped, arrived, isPending, handed, finished, entered}
+use Rattle.cores.specs.Power.{arrived, isPending, entered}
 use Rattle.cores.specs.Cores.{power, powered, turn, turned}
 use Rattle.cores.specs.declared.Power.{Power}
-use Rattle.cores.specs.declared.Turn.{Turn}
-use Rattle.pages.specs.declared.Window.{Window}
-use Rattle.mapping.specs.Lists.{held, holding, released}
-use Rattle.transfers.specs.Transfer.{carried}
+use Rattle.mapping.specs.Lists.{held}
 use Rattle.judgements.specs.Names.{normal}
-use Rattle.judgements.specs.Judge.{View, viewed, Sight, sighted, judged, calledBy}
+use Rattle.judgements.specs.Judge.{viewed, Sight, sighted, judged}
 use Rattle.judgements.specs.declared.Answer.{Answer}
 use Rattle.judgements.specs.declared.Deed.{Deed}
-use Rattle.judgements.specs.declared.Deed.the-variants.{Nothing, Move, Map, Unmap, Start, Stop, HandOver, Finish}
 use Rattle.judgements.specs.declared.Judged.{Judged}
 use Rattle.judgements.specs.declared.Seen.{Seen}
-use Rattle.calls.specs.Answers.{written}
+use Rattle.answers.specs.Answers.{answeredIn}
+use Rattle.deeds.specs.Deeds.{Tables, tables, withSaved, carriedOut}
 use Rattle.calls.specs.declared.Site.{Site}
 use Rattle.calls.specs.declared.Made.{Made}
 
@@ -51,74 +47,25 @@ callerOf s core = turn (s .turns) core .world
 abbrev pub judgedIn : State → ℕ → List ℕ → Judged
 judgedIn s core xs = judged (sight s core) xs
 
--- ---- what each deed does to each table, and what it leaves
-abbrev pub ownersBy : Deed → Window → List ℕ → List ℕ
-ownersBy Nothing w o = o
-ownersBy (Move start count to) w o = carried w o start count to
-ownersBy (Map m) w o = o
-ownersBy (Unmap virt size) w o = o
-ownersBy (Start c a x) w o = o
-ownersBy Stop w o = o
-ownersBy (HandOver to) w o = o
-ownersBy Finish w o = o
-
--- how many numbers a finish by this world returns to Normal: four, whichever it is
-abbrev pub returned : ℕ → ℕ
-returned world = 4
-
-abbrev pub savedBy : Deed → List ℕ → ℕ → ℕ → List ℕ → List ℕ
-savedBy Nothing r core caller xs = r
-savedBy (Move start count to) r core caller xs = r
-savedBy (Map m) r core caller xs = r
-savedBy (Unmap virt size) r core caller xs = r
-savedBy (Start c a x) r core caller xs = r
-savedBy Stop r core caller xs = r
-savedBy (HandOver to) r core caller xs = kept r core to xs
-savedBy Finish r core caller xs = kept r core normal (take (returned caller) (drop 1 xs))
-
-abbrev pub powersBy : Deed → List ℕ → ℕ → List ℕ
-powersBy Nothing t core = t
-powersBy (Move start count to) t core = t
-powersBy (Map m) t core = t
-powersBy (Unmap virt size) t core = t
-powersBy (Start c a x) t core = powered t c (started (power t c) a x)
-powersBy Stop t core = powered t core (stopped (power t core))
-powersBy (HandOver to) t core = t
-powersBy Finish t core = t
-
-abbrev pub turnsBy : Deed → List ℕ → ℕ → List ℕ
-turnsBy Nothing t core = t
-turnsBy (Move start count to) t core = t
-turnsBy (Map m) t core = t
-turnsBy (Unmap virt size) t core = t
-turnsBy (Start c a x) t core = t
-turnsBy Stop t core = t
-turnsBy (HandOver to) t core = turned t core (handed (turn t core) to)
-turnsBy Finish t core = turned t core (finished (turn t core))
-
-abbrev pub listsBy : Deed → List ℕ → ℕ → List ℕ
-listsBy Nothing t caller = t
-listsBy (Move start count to) t caller = t
-listsBy (Map m) t caller = holding t caller m
-listsBy (Unmap virt size) t caller = released t caller virt size
-listsBy (Start c a x) t caller = t
-listsBy Stop t caller = t
-listsBy (HandOver to) t caller = t
-listsBy Finish t caller = t
-
--- the frame's eight numbers, and over them the answer's results
-abbrev pub answeredIn : List ℕ → ℕ → ℕ → List ℕ → Answer → List ℕ
-answeredIn r core caller xs a = kept (kept r core caller xs) core caller (written (calledBy xs) a)
-
 -- ---- a call
+abbrev pub tablesOf : State → Tables
+tablesOf s = tables (s .owners) (s .saved) (s .powers) (s .turns) (s .lists)
+
+-- the state with these tables: what set-up fixed stays
+abbrev pub withTables : State → Tables → State
+withTables s t = state (s .site) (s .ledger) (t .owners) (t .saved) (t .powers) (t .turns) (t .lists)
+
+-- the state once a deed is carried out
+abbrev pub carriedIn : Deed → State → ℕ → ℕ → List ℕ → State
+carriedIn d s core caller xs = withTables s (carriedOut d (s .site .window) core caller xs (tablesOf s))
+
+-- the state once a call is answered
+abbrev pub withAnswer : Answer → State → ℕ → ℕ → List ℕ → State
+withAnswer a s core caller xs = withTables s (withSaved (tablesOf s) (answeredIn (s .saved) core caller xs a))
+
+-- a call is answered first, and then its deed carried out
 unfoldable pub applied : State → ℕ → ℕ → List ℕ → Judged → State
-applied s core caller xs j =
-    state (s .site) (s .ledger)
-    (ownersBy (j .deed) (s .site .window) (s .owners))
-    (savedBy (j .deed) (answeredIn (s .saved) core caller xs (j .answer)) core caller xs)
-    (powersBy (j .deed) (s .powers) core)
-    (turnsBy (j .deed) (s .turns) core)
-    (listsBy (j .deed) (s .lists) caller)
+applied s core caller xs j = carriedIn (j .deed) (withAnswer (j .answer) s core caller xs) core caller xs
 
 unfoldable pub called : State → ℕ → List ℕ → State × Made
 called s core xs = (

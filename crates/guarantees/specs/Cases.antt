@@ -34,7 +34,7 @@ use Rattle.judgements.specs.declared.Answer.the-variants as Answer
 use Rattle.judgements.specs.declared.Deed.the-variants as Deed
 use Rattle.judgements.specs.declared.Judged.{Judged}
 use Rattle.judgements.specs.declared.Args.{Args}
-use Rattle.calls.specs.Answers.{written}
+use Rattle.answers.specs.Answers.{written}
 use Rattle.calls.specs.Step.{State, state, sight, callerOf, judgedIn}
 use Rattle.calls.specs.Effects.{resultsIn, after, stepped-by}
 

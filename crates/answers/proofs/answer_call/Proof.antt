@@ -1,0 +1,34 @@
+-- The eight numbers are written first and the results over them, as their promises say.
+use borrow.Author.Needs.{needs}
+use Rattle.answers.specs.Laws.{answered}
+use Rattle.answers.proofs.answer_call.Statement.{statement}
+use Rattle.answers.proofs.answer_call.Tie as tie
+
+keep-requires : tie.Need-keep-requires
+keep-requires c κs = search needs
+
+element-copy-out-of : tie.Need-element-copy-out-of
+element-copy-out-of c = search needs
+
+of-requires : tie.Need-of-requires
+of-requires c κs = search needs
+
+split-requires : tie.Need-split-requires
+split-requires c κs = search needs
+
+write-answer-requires : tie.Need-write-answer-requires
+write-answer-requires c κs = search needs
+
+returns : tie.Need-returns
+returns c = search answered
+
+pub answer-call-spec : {M : Type 1} → statement M
+answer-call-spec =
+    tie.close
+    (tie.spec
+    keep-requires
+    element-copy-out-of
+    of-requires
+    split-requires
+    write-answer-requires
+    returns)

@@ -1,0 +1,146 @@
+-- In each arm of `write_answer` the answer is known, and the results that it writes are those of its definition.
+use borrow.Author.Needs.{needs}
+use Rattle.answers.specs.Laws.{answers}
+use Rattle.answers.proofs.write_answer.Statement.{statement}
+use Rattle.answers.proofs.write_answer.Tie as tie
+
+enum-told : tie.Need-enum-told
+enum-told c = search needs
+
+keep-one-requires : tie.Need-keep-one-requires
+keep-one-requires c κs = search needs
+
+enum-told-2 : tie.Need-enum-told-2
+enum-told-2 c = search needs
+
+keep-one-requires-2 : tie.Need-keep-one-requires-2
+keep-one-requires-2 c κs = search needs
+
+enum-told-3 : tie.Need-enum-told-3
+enum-told-3 c = search needs
+
+keep-one-requires-3 : tie.Need-keep-one-requires-3
+keep-one-requires-3 c κs = search needs
+
+enum-told-4 : tie.Need-enum-told-4
+enum-told-4 c = search needs
+
+keep-one-requires-4 : tie.Need-keep-one-requires-4
+keep-one-requires-4 c κs = search needs
+
+enum-told-5 : tie.Need-enum-told-5
+enum-told-5 c = search needs
+
+keep-one-requires-5 : tie.Need-keep-one-requires-5
+keep-one-requires-5 c κs = search needs
+
+enum-told-6 : tie.Need-enum-told-6
+enum-told-6 c = search needs
+
+keep-one-requires-6 : tie.Need-keep-one-requires-6
+keep-one-requires-6 c κs = search needs
+
+enum-known-a : tie.Need-enum-known-a
+enum-known-a c = search needs
+
+bit-of-requires : tie.Need-bit-of-requires
+bit-of-requires c κs = search needs
+
+keep-one-requires-7 : tie.Need-keep-one-requires-7
+keep-one-requires-7 c κs = search needs
+
+enum-known-a-2 : tie.Need-enum-known-a-2
+enum-known-a-2 c = search needs
+
+keep-three-requires : tie.Need-keep-three-requires
+keep-three-requires c κs = search needs
+
+enum-known-a-3 : tie.Need-enum-known-a-3
+enum-known-a-3 c = search needs
+
+keep-one-requires-8 : tie.Need-keep-one-requires-8
+keep-one-requires-8 c κs = search needs
+
+enum-told-7 : tie.Need-enum-told-7
+enum-told-7 c = search needs
+
+enum-known-a-4 : tie.Need-enum-known-a-4
+enum-known-a-4 c = search needs
+
+negative-of-requires : tie.Need-negative-of-requires
+negative-of-requires c κs = search needs
+
+keep-one-requires-9 : tie.Need-keep-one-requires-9
+keep-one-requires-9 c κs = search needs
+
+returns : tie.Need-returns
+returns c = search answers
+
+returns-2 : tie.Need-returns-2
+returns-2 c = search answers
+
+returns-3 : tie.Need-returns-3
+returns-3 c = search answers
+
+returns-4 : tie.Need-returns-4
+returns-4 c = search answers
+
+returns-5 : tie.Need-returns-5
+returns-5 c = search answers
+
+returns-6 : tie.Need-returns-6
+returns-6 c = search answers
+
+returns-7 : tie.Need-returns-7
+returns-7 c = search answers
+
+returns-8 : tie.Need-returns-8
+returns-8 c = search answers
+
+returns-9 : tie.Need-returns-9
+returns-9 c = search answers
+
+returns-10 : tie.Need-returns-10
+returns-10 c = search answers
+
+returns-11 : tie.Need-returns-11
+returns-11 c = search answers
+
+pub write-answer-spec : {M : Type 1} → statement M
+write-answer-spec =
+    tie.close
+    (tie.spec
+    enum-told
+    keep-one-requires
+    enum-told-2
+    keep-one-requires-2
+    enum-told-3
+    keep-one-requires-3
+    enum-told-4
+    keep-one-requires-4
+    enum-told-5
+    keep-one-requires-5
+    enum-told-6
+    keep-one-requires-6
+    enum-known-a
+    bit-of-requires
+    keep-one-requires-7
+    enum-known-a-2
+    keep-three-requires
+    enum-known-a-3
+    keep-one-requires-8
+    enum-told-7
+    enum-known-a-4
+    negative-of-requires
+    keep-one-requires-9
+    returns
+    returns-2
+    returns-3
+    returns-4
+    returns-5
+    returns-6
+    returns-7
+    returns-8
+    returns-9
+    returns-10
+    returns-11)

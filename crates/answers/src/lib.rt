@@ -1,0 +1,55 @@
+// What an answer writes for the caller.
+ghost use mathlib.Core.Path.{_≡_};
+ghost use Rattle.registers.specs.Registers.{kept};
+ghost use Rattle.rules.specs.Reasons.{minus};
+ghost use Rattle.answers.specs.Answers.{negative, bit, written, answeredIn};
+use identifiers::Identifier;
+use identifiers::Parts;
+use judgements::Answer;
+use registers::Saved;
+use rules::Reason;
+use rules::minus_of;
+
+// A refusal as a call of these parts has it written: in 64 bits, whatever its width.
+fn negative_of(p: Parts, r: Reason) -> u64
+    ensures { λ n. ⌜ n ≡ negative p (minus r) ⌝ }
+{
+    0xFFFF_FFFF_FFFF_FFFF - minus_of(r) + 1
+}
+
+// A truth value as the paper's 1 or 0.
+fn bit_of(is: bool) -> u64
+    ensures { λ n. ⌜ n ≡ bit is ⌝ }
+{
+    if is {
+        return 1;
+    }
+    0
+}
+
+// Writes the results that an answer lists, from x0 on; the others keep the caller's values.
+fn write_answer(t: &mut Saved, core: u64, world: u64, p: Parts, a: Answer)
+    ensures { λ _. ⌜ now (t .exit) ≡ kept (now (t .entry)) core world (written p a) ⌝ }
+{
+    match a {
+        Answer::Version => registers::keep_one(t, core, world, 0x10002),
+        Answer::PowerVersion => registers::keep_one(t, core, world, 0x10001),
+        Answer::Done => registers::keep_one(t, core, world, 0),
+        Answer::On => registers::keep_one(t, core, world, 0),
+        Answer::Off => registers::keep_one(t, core, world, 1),
+        Answer::Pending => registers::keep_one(t, core, world, 2),
+        Answer::Owns(is) => registers::keep_one(t, core, world, bit_of(is)),
+        Answer::Leads { phys, attr } => registers::keep_three(t, core, world, 0, phys, attr),
+        Answer::Count(n) => registers::keep_one(t, core, world, n),
+        Answer::Silent => {}
+        Answer::No(r) => registers::keep_one(t, core, world, negative_of(p, r)),
+    }
+}
+
+// The frame's eight numbers, and over them the answer.
+pub fn answer_call(t: &mut Saved, core: u64, world: u64, x: &[u64; 8], a: Answer)
+    ensures { λ _. ⌜ now (t .exit) ≡ answeredIn (now (t .entry)) core world (now (x .entry)) a ⌝ }
+{
+    registers::keep(t, core, world, x);
+    write_answer(t, core, world, Identifier::of(x[0]).split(), a);
+}

@@ -1,0 +1,90 @@
+// What each deed does.
+ghost use mathlib.Core.Path.{_≡_};
+ghost use Rattle.registers.specs.Registers.{kept};
+ghost use Rattle.judgements.specs.Names.{normal};
+ghost use Rattle.deeds.specs.Deeds.{tables, startedIn, stoppedIn, handedIn, finishedIn, finishNumbers, carriedOut};
+use cores::Powers;
+use cores::Turns;
+use judgements::Deed;
+use judgements::names;
+use mapping::Lists;
+use pages::Owners;
+use pages::Window;
+use registers::Saved;
+
+// The target becomes pending, with the address and the context that it is to find.
+fn start(t: &mut Powers, target: u64, address: u64, context: u64)
+    ensures { λ _. ⌜ now (t .exit) ≡ startedIn (now (t .entry)) target address context ⌝ }
+{
+    let was = cores::power_of(t, target);
+    cores::set_power(t, target, was.started(address, context));
+}
+
+// The calling core goes OFF.
+fn stop(t: &mut Powers, core: u64)
+    ensures { λ _. ⌜ now (t .exit) ≡ stoppedIn (now (t .entry)) core ⌝ }
+{
+    let was = cores::power_of(t, core);
+    cores::set_power(t, core, was.stopped());
+}
+
+// The receiver runs.
+fn hand_over(t: &mut Turns, core: u64, to: u64)
+    ensures { λ _. ⌜ now (t .exit) ≡ handedIn (now (t .entry)) core to ⌝ }
+{
+    let was = cores::turn_of(t, core);
+    cores::set_turn(t, core, was.handed(to));
+}
+
+// Normal runs.
+fn finish(t: &mut Turns, core: u64)
+    ensures { λ _. ⌜ now (t .exit) ≡ finishedIn (now (t .entry)) core ⌝ }
+{
+    let was = cores::turn_of(t, core);
+    cores::set_turn(t, core, was.finished());
+}
+
+// Normal gets the finisher's x1 to x4 as its x0 to x3.
+fn give_back(t: &mut Saved, core: u64, caller: u64, x: &[u64; 8])
+    ensures { λ _. ⌜ now (t .exit) ≡ kept (now (t .entry)) core normal (finishNumbers caller (now (x .entry))) ⌝ }
+{
+    let s: &[u64] = x;
+    registers::keep(t, core, names::NORMAL, &s[1..5]);
+}
+
+// Carries a deed out for the world that called, with its eight numbers.
+pub fn do_deed(
+    d: Deed,
+    w: Window,
+    core: u64,
+    caller: u64,
+    x: &[u64; 8],
+    owners: &mut Owners,
+    saved: &mut Saved,
+    powers: &mut Powers,
+    turns: &mut Turns,
+    lists: &mut Lists,
+)
+    ensures { λ _. ⌜ tables (now (owners .exit)) (now (saved .exit)) (now (powers .exit)) (now (turns .exit)) (now (lists .exit)) ≡ carriedOut d w core caller (now (x .entry)) (tables (now (owners .entry)) (now (saved .entry)) (now (powers .entry)) (now (turns .entry)) (now (lists .entry))) ⌝ }
+{
+    match d {
+        Deed::Nothing => {}
+        Deed::Move { start, count, to } => transfers::carry(w, owners, start, count, to),
+        Deed::Map(m) => mapping::hold(lists, caller, m),
+        Deed::Unmap { virt, size } => mapping::release(lists, caller, virt, size),
+        Deed::Start {
+            core: target,
+            start: address,
+            context,
+        } => start(powers, target, address, context),
+        Deed::Stop => stop(powers, core),
+        Deed::HandOver(to) => {
+            registers::keep(saved, core, to, x);
+            hand_over(turns, core, to);
+        }
+        Deed::Finish => {
+            give_back(saved, core, caller, x);
+            finish(turns, core);
+        }
+    }
+}
