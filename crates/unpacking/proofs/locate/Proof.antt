@@ -1,5 +1,5 @@
 -- `locate` meets its promise, since it asks the tests of `doubts` in their order.
-use mathlib.Core.Path.{refl}
+use mathlib.Core.Path.{refl, sym, _∙_}
 use Rattle.unpacking.specs.Reading.{locating, doubting}
 use Rattle.unpacking.specs.Accepted.{accepted}
 use borrow.Author.Needs.{needs}
@@ -16,7 +16,7 @@ returns : tie.Need-returns
 returns c = locating _ _ _ refl refl _ _ _ _ _ (c .before .before .before .before .judge .ensures) refl refl refl _ (search doubting depth 20)
 
 behind-requires : tie.Need-behind-requires
-behind-requires c κs = accepted (c .before .before .before .before .before .before .args .pack .now) (cc) .least
+behind-requires c κs = accepted (c .before .before .before .before .before .before .args .pack .now) (sym (c .before .before .before .before .judge .ensures) ∙ search needs) .least
 
 count-of-requires : tie.Need-count-of-requires
 count-of-requires c κs = search needs

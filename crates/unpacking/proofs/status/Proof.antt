@@ -1,5 +1,6 @@
 -- `status` meets its promise, since each arm of the match knows the answer that it names.
 use Rattle.unpacking.specs.Reading.{at-status, refused-status}
+use mathlib.Core.Path.{sym, _∙_}
 use borrow.Author.Needs.{needs}
 use Rattle.unpacking.proofs.status.Statement.{statement}
 use Rattle.unpacking.proofs.status.Tie as tie
@@ -14,10 +15,10 @@ enum-known-v : tie.Need-enum-known-v
 enum-known-v c = search needs
 
 returns : tie.Need-returns
-returns c = at-status _ (c .enum-told .given .0 .0) (c .enum-told .given .0 .1 .0) (cc)
+returns c = at-status _ (c .enum-told .given .0 .0) (c .enum-told .given .0 .1 .0) (sym (c .before .before .locate .ensures) ∙ c .enum-told .given .1)
 
 returns-2 : tie.Need-returns-2
-returns-2 c = refused-status _ (c .before .v .given .0 .0) (cc)
+returns-2 c = refused-status _ (c .before .v .given .0 .0) (sym (c .before .before .before .locate .ensures) ∙ c .before .v .given .1)
 
 pub status-spec : {M : Type 1} → statement M
 status-spec = tie.close (tie.spec locate-requires enum-told enum-known-v returns returns-2)
