@@ -18,7 +18,7 @@ is-below-requires c κs = search needs
 
 returns : tie.Need-returns
 unfolding begins
-returns c = cc
+returns c = rw (c .is-below .ensures, c .before .size-of .ensures, c .before .before .offset-of2 .ensures, c .before .before .before .offset-of .ensures)
 
 pub is-begun-spec : {M : Type 1} → statement M
 is-begun-spec =

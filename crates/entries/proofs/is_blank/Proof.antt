@@ -15,7 +15,7 @@ same-requires c κs = search needs
 
 returns : tie.Need-returns
 unfolding blank
-returns c = cc
+returns c = rw (c .same .ensures, c .before .before .entry .ensures .0)
 
 pub is-blank-spec : {M : Type 1} → statement M
 is-blank-spec = tie.close (tie.spec entry-requires slice-aggregate-same same-requires returns)

@@ -12,7 +12,7 @@ same-requires c κs = search needs
 
 returns : tie.Need-returns
 unfolding holds
-returns c = cc
+returns c = rw (c .same .ensures, c .before .entry .ensures .0)
 
 pub is-held-spec : {M : Type 1} → statement M
 is-held-spec = tie.close (tie.spec entry-requires same-requires returns)

@@ -15,7 +15,7 @@ is-below-requires c κs = search needs
 
 returns : tie.Need-returns
 unfolding outside
-returns c = cc
+returns c = rw (c .is-below .ensures, c .before .size-of .ensures, c .before .before .offset-of .ensures)
 
 pub is-outside-spec : {M : Type 1} → statement M
 is-outside-spec =

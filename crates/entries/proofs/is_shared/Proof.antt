@@ -1,5 +1,6 @@
 -- `is_shared` meets its promise, since it makes the tests of the definition in their order.
 use mathlib.Core.Path.{_∙_}
+use Rattle.rules.specs.Tests.{said}
 use borrow.Author.Needs.{needs}
 use Rattle.entries.specs.Table.{shares-empty, shares-before, shares-rest}
 use Rattle.entries.proofs.is_shared.Statement.{statement}
@@ -18,10 +19,10 @@ is-begun-requires-2 : tie.Need-is-begun-requires-2
 is-begun-requires-2 c κs = search needs
 
 returns-2 : tie.Need-returns-2
-returns-2 c = c .is-begun2 .ensures ∙ shares-rest _ _ _ (search needs) (cc)
+returns-2 c = c .is-begun2 .ensures ∙ shares-rest _ _ _ (search needs) (search said)
 
 returns-3 : tie.Need-returns-3
-returns-3 c = shares-before _ _ _ (search needs) (cc)
+returns-3 c = shares-before _ _ _ (search needs) (search said)
 
 pub is-shared-spec : {M : Type 1} → statement M
 is-shared-spec = tie.close (tie.spec size-of-requires returns is-begun-requires is-begun-requires-2 returns-2 returns-3)

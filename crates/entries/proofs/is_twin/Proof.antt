@@ -15,7 +15,7 @@ same-requires c κs = search needs
 
 returns : tie.Need-returns
 unfolding twins
-returns c = cc
+returns c = rw (c .same .ensures, c .before .entry2 .ensures .0, c .before .before .entry .ensures .0)
 
 pub is-twin-spec : {M : Type 1} → statement M
 is-twin-spec = tie.close (tie.spec entry-requires entry-requires-2 same-requires returns)

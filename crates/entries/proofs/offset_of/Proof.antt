@@ -15,7 +15,7 @@ eight-requires c κs = search needs
 
 returns : tie.Need-returns
 unfolding offset
-returns c = cc
+returns c = rw (c .eight .ensures, c .before .entry .ensures .0)
 
 pub offset-of-spec : {M : Type 1} → statement M
 offset-of-spec = tie.close (tie.spec entry-requires add-eight eight-requires returns)

@@ -15,7 +15,7 @@ eight-requires c κs = search needs
 
 returns : tie.Need-returns
 unfolding size
-returns c = cc
+returns c = rw (c .eight .ensures, c .before .entry .ensures .0)
 
 pub size-of-spec : {M : Type 1} → statement M
 size-of-spec = tie.close (tie.spec entry-requires add-eight eight-requires returns)
