@@ -1,7 +1,7 @@
 -- The tables of eight cores: each core's power, and each core's turn. Shut: only the laws below say what stands where.
 -- There is no ninth core: one past the eighth reads as OFF, in no world that calls and with nothing open, and writing there changes nothing.
-use mathlib.Core.Path.{_≡_, refl, sym, ap, _∙_}
-use mathlib.Core.Bool.{Bool, true, false}
+use mathlib.Core.Path.{_≡_, refl, sym, _∙_}
+use mathlib.Core.Bool.{false}
 use mathlib.Core.List.{List, [], _∷_}
 use Prim.Native.Nat.{ℕ, zero, suc, _+_, _-_, _*_, _^_, _≤_, _<_}
 use native.Mathlib.Nat.{pow-le-pow-right}
@@ -9,11 +9,10 @@ use native.Mathlib.Omega.{arith}
 use lib.Dec.{eqb, ltb}
 use lib.Count.{ones}
 use lib.ListN.{getD, set, replicate}
-use lib.Seq.{set-getD}
 use borrow.Author.Tests.{ltb-true, ltb-false}
-use Rattle.rules.specs.Choice.{either, pick-yes, pick-no}
+use Rattle.rules.specs.Choice.{either}
 use Rattle.rules.specs.Store.{read, write, Whole, read-in, write-in, write-out, write-same, write-other, write-whole, blank-whole, blank-read, past-read}
-use Rattle.cores.specs.Count.{bit, bit-told, count, mask, ones-mask, mask-fits, count-le, count-more, count-none, count-same, count-but-one}
+use Rattle.cores.specs.Count.{bit, bit-told, count, mask, ones-mask, mask-fits, count-le}
 use Rattle.cores.specs.Power.{powerOf, turnOf, off, on, normal, isOn}
 use Rattle.cores.specs.declared.Power.{Power}
 use Rattle.cores.specs.declared.Turn.{Turn}
@@ -176,29 +175,6 @@ module _ (t : List ℕ) (core : ℕ) (r : Turn) where
         write-other 16 t (2 * core) (r .world) (2 * other + 1) (λ e. omega arith),
       )
 
--- ---- what stands there, written back
-own : (n : ℕ) (t : List ℕ) (i : ℕ) → write n t i (read n t i) ≡ t
-unfolding read write
-own n t i =
-    either (ltb i n) (λ e. rw (pick-yes (ltb i n) (getD t i 0) 0 e, set-getD t i 0) (pick-yes (ltb i n) t t e)) (λ e. pick-no (ltb i n) _ t e)
-
-pub powered-own : (t : List ℕ) (core : ℕ) → powered t core (power t core) ≡ t
-unfolding power powered
-powered-own t core = rw (own 24 t (3 * core), own 24 t (3 * core + 1)) (own 24 t (3 * core + 2))
-
--- ---- past the eighth core
-pub power-past : (t : List ℕ) (core : ℕ) → 8 ≤ core → power t core ≡ powerOf off 0 0
-power-past t core h = sym (power-out t core h)
-
-pub powered-past : (t : List ℕ) (core : ℕ) (p : Power) → 8 ≤ core → powered t core p ≡ t
-powered-past t core p h = sym (powered-out t core p h)
-
-pub turn-past : (t : List ℕ) (core : ℕ) → 8 ≤ core → turn t core ≡ turnOf 0 false
-turn-past t core h = sym (turn-out t core h)
-
-pub turned-past : (t : List ℕ) (core : ℕ) (r : Turn) → 8 ≤ core → turned t core r ≡ t
-turned-past t core r h = sym (turned-out t core r h)
-
 -- ---- the tables at the start
 zeros-read : (i : ℕ) → read 24 (replicate 24 0) i ≡ 0
 zeros-read i = either (ltb i 24) (λ e. blank-read 24 0 i (ltb-true i 24 e)) (λ e. past-read 24 (replicate 24 0) i (ltb-false i 24 e))
@@ -210,17 +186,6 @@ first-powers-are t e = e ∙ write-in 24 (replicate 24 0) 0 on (omega arith)
 pub first-powers-whole : WholePowers firstPowers
 unfolding firstPowers WholePowers
 first-powers-whole = write-whole 24 (replicate 24 0) 0 on (blank-whole 24 0)
-
-pub first-power : power firstPowers 0 ≡ powerOf on 0 0
-unfolding power firstPowers
-first-power =
-    rw (
-      write-same 24 (replicate 24 0) 0 on (blank-whole 24 0) (omega arith),
-      write-other 24 (replicate 24 0) 0 on 1 (λ e. omega arith),
-      write-other 24 (replicate 24 0) 0 on 2 (λ e. omega arith),
-      zeros-read 1,
-      zeros-read 2,
-    )
 
 pub first-power-other : (core : ℕ) → (core ≡ 0 → ⊥) → power firstPowers core ≡ powerOf off 0 0
 unfolding power firstPowers
@@ -264,32 +229,9 @@ first-turn core h = sym (turn-in firstTurns core h) ∙ rw (resting-world 8 core
 
 -- ---- how many are ON
 module _ (t : List ℕ) where
-  pub on-count : onCount t ≡ count (λ core. isOn (power t core)) 0 8
-  unfolding onCount
-  on-count = refl
-
   pub on-count-le : onCount t ≤ 8
   unfolding onCount
   on-count-le = count-le (λ core. isOn (power t core)) 0 8
-
-  pub on-count-same : (q : List ℕ) → ((core : ℕ) → core < 8 → isOn (power t core) ≡ isOn (power q core)) → onCount t ≡ onCount q
-  unfolding onCount
-  on-count-same q f = count-same (λ core. isOn (power t core)) (λ core. isOn (power q core)) 0 8 (λ k h l. f k l)
-
-  -- a core's new power counts in the place of its old one
-  pub on-count-powered : (core : ℕ) (p : Power) → WholePowers t → core < 8 → onCount (powered t core p) + bit (isOn (power t core)) ≡ onCount t + bit (isOn p)
-  unfolding onCount
-  on-count-powered core p w h =
-      count-but-one (λ c. isOn (power (powered t core p) c)) (λ c. isOn (power t c)) 0 8 core (omega arith) (omega arith)
-      (λ k d. ap isOn (power-other t core p k d))
-      ∙ rw (power-same t core p w h)
-
--- at the start core 0 alone is ON
-pub on-count-first : onCount firstPowers ≡ 1
-unfolding onCount bit isOn
-on-count-first =
-    count-more (λ core. isOn (power firstPowers core)) 0 7
-    ∙ rw (first-power, count-none (λ core. isOn (power firstPowers core)) 1 7 (λ k h l. ap isOn (first-power-other k (λ e. omega arith))))
 
 -- ---- the mask, made from the eighth core down: it holds the cores from `core` on
 pub record Masked (t : List ℕ) (core m : ℕ) : Type 0 where

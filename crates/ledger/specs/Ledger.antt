@@ -2,7 +2,7 @@
 use mathlib.Core.Path.{_≡_, refl, sym, ap, _∙_}
 use mathlib.Core.Bool.{Bool, true, false, _&&_}
 use mathlib.Core.List.{List, [], _∷_}
-use Prim.Native.Nat.{ℕ, _+_, _-_, _≤_, _<_}
+use Prim.Native.Nat.{ℕ, _+_, _-_, _≤_}
 use native.Mathlib.Omega.{arith}
 use lib.Dec.{ltb, leb, eqb}
 use borrow.Author.Tests.{ltb-true, ltb-false, leb-true, eqb-true, le-leb, eq-eqb}
@@ -14,7 +14,7 @@ use Rattle.ledger.specs.declared.Lookup.the-variants.{Handler, Nobody}
 use Rattle.ledger.specs.declared.Entry.{Entry}
 use Rattle.ledger.specs.declared.Entry.the-variants.{Accepted, OutOfRange, Taken}
 use Rattle.ledger.specs.Pairs.{assigned, record-is, recorded-in, recorded-out, recorded-proper}
-pub use Rattle.ledger.specs.Pairs.{Proper, empty, handler, recorded, empty-proper, empty-handler, pair-known}
+pub use Rattle.ledger.specs.Pairs.{Proper, empty, handler, recorded, empty-proper, empty-handler}
 
 -- the pair has a handler
 abbrev pub has : Lookup → Bool
@@ -116,13 +116,6 @@ module _ (t : List ℕ) (first last kind number : ℕ) where
         chosen P (any (taken t kind) first (last - first + 1)) _ _
         (λ e. clash r (λ f. yes-or-no _ e (any-if-not (taken t kind) first (last - first + 1) (λ o h l. not-taken t kind o (f o h (omega arith))))))
         (λ e. done r (λ o h l. taken-not t kind o (any-not (taken t kind) first (last - first + 1) o e h (omega arith))))))))
-
-  -- which of the three it is
-  pub out-of-range : (Ranged first last kind number → ⊥) → entered t first last kind number ≡ (OutOfRange, t)
-  out-of-range n = entered-by (λ (o : Entry × List ℕ). o ≡ (OutOfRange, t)) (λ m. refl) (λ r f. absurd (n r)) (λ r f. absurd (n r))
-
-  pub already-taken : Ranged first last kind number → (Free t first last kind → ⊥) → entered t first last kind number ≡ (Taken, t)
-  already-taken r n = entered-by (λ (o : Entry × List ℕ). o ≡ (Taken, t)) (λ m. absurd (m r)) (λ s f. refl) (λ s f. absurd (n f))
 
   pub accepted-where : Ranged first last kind number → Free t first last kind → entered t first last kind number ≡ (Accepted, recorded t first last kind number)
   accepted-where r f =

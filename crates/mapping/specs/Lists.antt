@@ -1,13 +1,13 @@
 -- The mappings that each world holds, how one is put among them and how one is taken out. Shut: the laws say the rest.
-use mathlib.Core.Path.{_≡_, refl, sym, ap, _∙_, fun-ext}
+use mathlib.Core.Path.{_≡_, refl, sym, ap, _∙_}
 use mathlib.Core.Bool.{Bool, true, false}
 use mathlib.Core.List.{List, []}
 use mathlib.Core.Option.{none, some}
 use Prim.Native.Nat.{ℕ, _+_, _-_, _*_, _%_, _^_, _≤_, _<_}
 use native.Mathlib.Omega.{arith}
-use lib.Dec.{ltb, eqb}
+use lib.Dec.{ltb}
 use lib.ListN.{length}
-use borrow.Author.Tests.{lt-ltb, le-ltb, le-leb, lt-leb, ne-eqb, ltb-true, ltb-false, eqb-true, eqb-false}
+use borrow.Author.Tests.{lt-ltb, le-ltb, le-leb, lt-leb, ne-eqb, ltb-true, ltb-false}
 use Rattle.rules.specs.Choice.{either, yes-or-no}
 use Rattle.rules.specs.Search.{first}
 use Rattle.pages.specs.Sizes.{pageSize}
@@ -15,9 +15,9 @@ use Rattle.mapping.specs.Sizes.{places, worlds}
 use Rattle.mapping.specs.Mapping.{onPages, anyOf, firstOf, clash, isFull, hasExactly, meetsRun, deciding, leading, leadOf, without}
 use Rattle.mapping.specs.Entries.{Inserted, first-missing, without-missing, deciding-low}
 use Rattle.mapping.specs.Question.{asksFree, asks, answers}
-use Rattle.mapping.specs.Places.{gathered, lowest, lowest-any, lowest-none, lowest-first, lowest-free, room-left, none-left, filled-in, removed, gathered-same, gathered-none, gathered-some, gathered-most}
+use Rattle.mapping.specs.Places.{gathered, lowest, lowest-any, lowest-none, lowest-first, lowest-free, room-left, none-left, filled-in, removed, gathered-same, gathered-none, gathered-some}
 pub use Rattle.mapping.specs.Table.{unmapped, WholeLists, unmapped-whole}
-use Rattle.mapping.specs.Table.{blank, place, stored, stored-whole, stored-same, stored-other, stored-alike, place-no-world, stored-no-world, stored-no-place, unmapped-blank}
+use Rattle.mapping.specs.Table.{blank, place, stored, stored-whole, stored-same, stored-other, place-no-world, stored-no-place, unmapped-blank}
 use Rattle.mapping.specs.declared.Mapping.{Mapping}
 use Rattle.mapping.specs.declared.Lead.the-variants.{To, Nowhere}
 use Rattle.mapping.specs.declared.Question.{Question}
@@ -146,10 +146,6 @@ pub held-some : (t : List ℕ) (w v : ℕ) → hasExactly (held t w) v 0 ≡ fal
 unfolding held
 held-some t w v = gathered-some (place t w) 0 places v
 
-pub held-most : (t : List ℕ) (w : ℕ) → length (held t w) ≤ places
-unfolding held
-held-most t w = gathered-most (place t w) 0 places
-
 -- a store leaves the other worlds' mappings
 stored-elsewhere : (t : List ℕ) (w i : ℕ) (m : Mapping) (u : ℕ) → (u ≡ w → ⊥) → held (stored t w i m) u ≡ held t u
 unfolding held
@@ -172,17 +168,6 @@ module _ (t : List ℕ) (w : ℕ) (m : Mapping) where
       let l : i < places = either (ltb i places) (ltb-true _ _) (λ n. absurd (omega (arith, none-left (place t w) places (ltb-false _ _ n)))) in
       let s : place (stored t w i m) w i ≡ m = stored-same t w i m h k l in
       (rw s at (filled-in (place t w) (place (stored t w i m) w) places i l (λ j e. stored-other t w i m w j (λ _ f. e f)) (lowest-free (place t w) places l) (rw s (ne-eqb _ _ d))))
-
-  -- where it has none, nothing changes
-  pub holding-full : places ≤ length (held t w) → holding t w m ≡ t
-  unfolding holding held found
-  holding-full h =
-      let i = lowest (place t w) Free places in
-      sym (stored-no-place w i t m (either (ltb i places) (λ y. absurd (omega (arith, room-left (place t w) places (ltb-true _ _ y)))) (ltb-false _ _)))
-
-  pub holding-no-world : worlds ≤ w → holding t w m ≡ t
-  unfolding holding
-  holding-no-world h = sym (stored-no-world w (found t w Free) t m h)
 
 module _ (t : List ℕ) (w v s : ℕ) where
   none-exact : hasExactly [] v s ≡ false
@@ -213,61 +198,3 @@ module _ (t : List ℕ) (w v s : ℕ) where
       let b : place (stored t w i blank) w i ≡ blank = stored-same t w i blank h k l in
       removed (place t w) (place (stored t w i blank) w) places v s l (λ j e. stored-other t w i blank w j (λ _ f. e f)) (rw b))
       (λ n. rw (released-none n, without-missing v s (held t w) n))
-
-  pub released-no-world : worlds ≤ w → released t w v s ≡ t
-  unfolding released
-  released-no-world h = sym (stored-no-world w (found t w (Exact v s)) t blank h)
-
--- ---- two tables, alike at the places of a world
-pub Alike : ℕ → List ℕ → List ℕ → Type 0
-Alike u t q = (i : ℕ) → place t u i ≡ place q u i
-
-module _ (u : ℕ) (t q : List ℕ) where
-  pub alike-held : Alike u t q → held t u ≡ held q u
-  unfolding Alike held
-  alike-held a = gathered-same (place t u) (place q u) 0 places (λ i h l. a i)
-
-  pub alike-sym : Alike u t q → Alike u q t
-  unfolding Alike
-  alike-sym a i = sym (a i)
-
-  pub alike-trans : (r : List ℕ) → Alike u t q → Alike u q r → Alike u t r
-  unfolding Alike
-  alike-trans r a b i = a i ∙ b i
-
-  alike-found : (x : Question) → Alike u t q → found t u x ≡ found q u x
-  unfolding Alike found
-  alike-found x a = ap (λ (f : ℕ → Mapping). lowest f x places) (fun-ext a)
-
-  -- one store at the place that both find keeps them alike
-  alike-stored : (w : ℕ) (x : Question) (m : Mapping) → WholeLists t → WholeLists q → Alike u t q → Alike u (stored t w (found t w x) m) (stored q w (found q w x) m)
-  unfolding Alike
-  alike-stored w x m ht hq a i =
-      either (eqb u w)
-      (λ y. let e : u ≡ w = eqb-true _ _ y in
-      let k : found t w x ≡ found q w x = rw e at (alike-found x a) in
-      rw k (stored-alike t q w (found q w x) m u i ht hq (a i)))
-      (λ n. let d : u ≡ w → ⊥ = eqb-false _ _ n in
-      stored-other t w (found t w x) m u i (λ e _. d e) ∙ a i ∙ sym (stored-other q w (found q w x) m u i (λ e _. d e)))
-
-  pub alike-holding : (w : ℕ) (m : Mapping) → WholeLists t → WholeLists q → Alike u t q → Alike u (holding t w m) (holding q w m)
-  unfolding holding
-  alike-holding w m = alike-stored w Free m
-
-  pub alike-released : (w v s : ℕ) → WholeLists t → WholeLists q → Alike u t q → Alike u (released t w v s) (released q w v s)
-  unfolding released
-  alike-released w v s = alike-stored w (Exact v s) blank
-
-pub alike-same : (u : ℕ) (t : List ℕ) → Alike u t t
-unfolding Alike
-alike-same u t i = refl
-
--- a change of one world's mappings leaves a table alike at the places of the others
-module _ (t : List ℕ) (u w : ℕ) (d : u ≡ w → ⊥) where
-  pub other-holding : (m : Mapping) → Alike u (holding t w m) t
-  unfolding Alike holding
-  other-holding m i = stored-other t w (found t w Free) m u i (λ e _. d e)
-
-  pub other-released : (v s : ℕ) → Alike u (released t w v s) t
-  unfolding Alike released
-  other-released v s i = stored-other t w (found t w (Exact v s)) blank u i (λ e _. d e)

@@ -2,14 +2,14 @@
 use mathlib.Core.Path.{_≡_, refl, sym, _∙_}
 use mathlib.Core.List.{List, [], _∷_}
 use mathlib.Core.Logic.{⊎-elim}
-use Prim.Native.Nat.{ℕ, zero, suc, _+_, _-_, _*_, _/_, _%_, _≤_, _<_}
+use Prim.Native.Nat.{ℕ, zero, suc, _+_, _-_, _*_, _≤_, _<_}
 use native.Mathlib.Omega.{arith}
 use native.Mathlib.Numerals.{add-one}
 use native.Mathlib.Nat.{eq-or-lt-of-le}
-use lib.Dec.{ltb, eqb}
-use lib.ListN.{length, getD, set, take, drop, replicate, length-set, length-take, length-replicate, getD-replicate, List·getD-eq-default, drop-of-length-le}
-use lib.Seq.{sets, length-sets, getD-set-same, getD-set-other, getD-take, getD-drop, drop-cons, ext-getD, take-take}
-use borrow.Author.Tests.{lt-ltb, le-ltb, ltb-true, ltb-false, eqb-true, eqb-false}
+use lib.Dec.{ltb}
+use lib.ListN.{length, getD, set, take, drop, replicate, length-set, length-take, length-replicate, List·getD-eq-default, drop-of-length-le}
+use lib.Seq.{sets, length-sets, getD-set-same, getD-set-other, getD-take, getD-drop, drop-cons}
+use borrow.Author.Tests.{lt-ltb, le-ltb, ltb-true, ltb-false}
 use Rattle.rules.specs.Choice.{pick, picked, passed, either}
 use Rattle.registers.specs.declared.Start.{Start}
 use Rattle.registers.specs.declared.Start.the-variants.{At, Nowhere}
@@ -121,10 +121,6 @@ module _ (t : List ℕ) (c w : ℕ) (s : Start) (f : s ≡ startOf c w) where
     unfolding partAt
     part-there = let n : a + 9 - a ≡ 9 = omega arith in rw (← f, g, n)
 
-    pub saved-there : (i r : ℕ) → r ≡ numberIn (take (a + 9 - a) (drop a t)) i → r ≡ saved t c w i
-    unfolding saved
-    saved-there i r h = rw (← part-there) h
-
     pub shown-there : (r : Shown) → r ≡ shownIn (take (a + 9 - a) (drop a t)) → r ≡ shownOf t c w
     unfolding shownIn shownOf saved
     shown-there r h = rw (← part-there) h
@@ -134,7 +130,7 @@ module _ (t : List ℕ) (c w : ℕ) (s : Start) (f : s ≡ startOf c w) where
     left-all xs = let z : a + 0 ≡ a = omega arith in rw (← f, g, z)
 
   module _ (g : s ≡ Nowhere) where
-    pub saved-nowhere : (i : ℕ) → 0 ≡ saved t c w i
+    saved-nowhere : (i : ℕ) → 0 ≡ saved t c w i
     unfolding saved partAt numberIn
     saved-nowhere i = rw (← f, g)
 
@@ -146,7 +142,7 @@ module _ (t : List ℕ) (c w : ℕ) (s : Start) (f : s ≡ startOf c w) where
     unfolding kept keptAt
     kept-nowhere xs = rw (← f, g)
 
-pub ruleset reading = (saved-there, saved-nowhere, shown-there, shown-nowhere)
+pub ruleset reading = (shown-there, shown-nowhere)
 
 module _ (n : ℕ) where
   pub count-few : n < 9 → n ≡ countOf n
@@ -227,24 +223,12 @@ module _ (t : List ℕ) (c w : ℕ) where
   kept-lost : startOf c w ≡ Nowhere → (xs : List ℕ) → kept t c w xs ≡ t
   kept-lost e xs = sym (kept-nowhere t c w Nowhere (sym e) refl xs)
 
-  pub saved-no-core : 8 ≤ c → (i : ℕ) → saved t c w i ≡ 0
-  saved-no-core h = saved-lost (sym (start-no-core c w h))
-
-  pub saved-no-world : 4 ≤ w → (i : ℕ) → saved t c w i ≡ 0
-  saved-no-world h = placed c w (λ k l e. absurd (omega arith)) saved-lost
-
   pub saved-no-number : (i : ℕ) → 9 ≤ i → saved t c w i ≡ 0
   unfolding saved partAt numberIn
   saved-no-number i h =
       placed c w
       (λ k l e. let n = length-take 9 (drop (place c w) t) in rw e (List·getD-eq-default (take 9 (drop (place c w) t)) 0 {n = i} (omega arith)))
       (λ e. rw e)
-
-  pub kept-no-core : 8 ≤ c → (xs : List ℕ) → kept t c w xs ≡ t
-  kept-no-core h = kept-lost (sym (start-no-core c w h))
-
-  pub kept-no-world : 4 ≤ w → (xs : List ℕ) → kept t c w xs ≡ t
-  kept-no-world h = placed c w (λ k l e. absurd (omega arith)) kept-lost
 
 -- a number is one of the nine of a core and world, or there is none in any table
 numbered : {P : Type 0} (c w i : ℕ) → (c < 8 → w < 4 → i < 9 → P) → (((t : List ℕ) → saved t c w i ≡ 0) → P) → P
@@ -261,11 +245,6 @@ module _ (t : List ℕ) (c w : ℕ) (h : c < 8) (k : w < 4) where
   kept-is : (xs : List ℕ) → kept t c w xs ≡ sets t (place c w) (take 9 xs)
   unfolding kept keptAt
   kept-is xs = rw (← start-here c w h k)
-
--- at first nothing has been saved: every number is 0
-pub zeros-saved : (c w i : ℕ) → saved zeros c w i ≡ 0
-unfolding zeros
-zeros-saved c w i = numbered c w i (λ h k l. saved-is zeros c w h k i l ∙ getD-replicate 288 (place c w + i) 0 0 (omega arith)) (λ n. n zeros)
 
 pub zeros-whole : Whole zeros
 unfolding zeros Whole
@@ -318,72 +297,3 @@ module _ (t : List ℕ) (c w : ℕ) (xs : List ℕ) where
 -- writing nothing changes nothing
 pub kept-none : (t : List ℕ) (c w : ℕ) → kept t c w [] ≡ t
 kept-none t c w = placed c w (λ h k e. kept-is t c w h k []) (λ e. kept-lost t c w e [])
-
--- what is past the ninth is not written
-pub kept-nine : (t : List ℕ) (c w : ℕ) (xs : List ℕ) → kept t c w (take 9 xs) ≡ kept t c w xs
-kept-nine t c w xs =
-    placed c w
-    (λ h k e. kept-is t c w h k (take 9 xs) ∙ rw (take-take 9 9 xs (omega arith)) (sym (kept-is t c w h k xs)))
-    (λ e. kept-lost t c w e (take 9 xs) ∙ sym (kept-lost t c w e xs))
-
--- a table is its numbers: nothing else is in it
-pub same-numbers : (t q : List ℕ) → Whole t → Whole q → ((c w i : ℕ) → c < 8 → w < 4 → i < 9 → saved t c w i ≡ saved q c w i) → t ≡ q
-unfolding Whole
-same-numbers t q a b f =
-    ext-getD 0 t q (a ∙ sym b)
-    (λ n s.
-    let c = n / 36 in
-    let w = n / 9 % 4 in
-    let i = n % 9 in
-    let z : place c w + i ≡ n = omega arith in
-    let h : c < 8 = omega arith in
-    let k : w < 4 = omega arith in
-    let l : i < 9 = omega arith in
-    rw (← z) (sym (saved-is t c w h k i l) ∙ f c w i h k l ∙ saved-is q c w h k i l))
-
--- ---- a copy of any count
-
--- t′ is t with the numbers xs, however many, in place of as many of one core and world, and nothing else changed
-pub record Copied (t : List ℕ) (c w : ℕ) (xs t′ : List ℕ) : Type 0 where
-  pub whole : Whole t′
-  pub written : (j : ℕ) → j < 9 → j < length xs → saved t′ c w j ≡ getD xs j 0
-  pub past : (j : ℕ) → length xs ≤ j → saved t′ c w j ≡ saved t c w j
-  pub others : (d u j : ℕ) → (c ≡ d → w ≡ u → ⊥) → saved t′ d u j ≡ saved t d u j
-
-pub kept-copies : (t : List ℕ) (c w : ℕ) (xs : List ℕ) → Whole t → c < 8 → w < 4 → Copied t c w xs (kept t c w xs)
-kept-copies t c w xs a h k =
-    record {
-      whole = kept-whole t c w xs a;
-      written = λ j l m. kept-at t c w xs j a h k l m;
-      past = kept-past t c w xs;
-      others = kept-other t c w xs;
-    }
-
--- two tables alike in a number are alike in it after one copy into both
-module _ (t q : List ℕ) (c w : ℕ) (xs : List ℕ) where
-  copied-same : (t′ q′ : List ℕ) → Copied t c w xs t′ → Copied q c w xs q′ → (d u j : ℕ) → saved t d u j ≡ saved q d u j → saved t′ d u j ≡ saved q′ d u j
-  copied-same t′ q′ r s d u j e =
-      either (eqb c d)
-      (λ y. either (eqb w u) (λ z. here (eqb-true c d y) (eqb-true w u z)) (λ z. elsewhere (λ f g. eqb-false w u z g)))
-      (λ y. elsewhere (λ f g. eqb-false c d y f))
-    where
-      elsewhere : (c ≡ d → w ≡ u → ⊥) → saved t′ d u j ≡ saved q′ d u j
-      elsewhere o = r .others d u j o ∙ e ∙ sym (s .others d u j o)
-
-      here : c ≡ d → w ≡ u → saved t′ d u j ≡ saved q′ d u j
-      here y z =
-          rw (← y, ← z) (either (ltb j (length xs))
-          (λ b. let m = ltb-true j (length xs) b in numbered c w j (λ h k l. r .written j l m ∙ sym (s .written j l m)) (λ n. n t′ ∙ sym (n q′)))
-          (λ b. let m = ltb-false j (length xs) b in r .past j m ∙ rw (y, z) e ∙ sym (s .past j m)))
-
-  pub kept-same : (d u j : ℕ) → Whole t → Whole q → saved t d u j ≡ saved q d u j → saved (kept t c w xs) d u j ≡ saved (kept q c w xs) d u j
-  kept-same d u j a b e =
-      placed c w
-      (λ h k f. copied-same (kept t c w xs) (kept q c w xs) (kept-copies t c w xs a h k) (kept-copies q c w xs b h k) d u j e)
-      (λ f. rw (kept-lost t c w f xs, kept-lost q c w f xs) e)
-
--- only one table is such a copy
-pub copied-kept : (t : List ℕ) (c w : ℕ) (xs t′ : List ℕ) → Whole t → c < 8 → w < 4 → Copied t c w xs t′ → t′ ≡ kept t c w xs
-copied-kept t c w xs t′ a h k r =
-    same-numbers t′ (kept t c w xs) (r .whole) (kept-whole t c w xs a)
-    (λ d u j p q l. copied-same t t c w xs t′ (kept t c w xs) r (kept-copies t c w xs a h k) d u j refl)

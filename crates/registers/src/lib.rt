@@ -2,7 +2,7 @@
 // Where there is no such core, world or number, reading gives 0 and writing changes nothing.
 ghost use mathlib.Core.Path.{_≡_};
 ghost use mathlib.Core.List.{[], _∷_};
-ghost use Rattle.registers.specs.Registers.{startOf, countOf, numberIn, shownIn, zeros, saved, shownOf, kept};
+ghost use Rattle.registers.specs.Registers.{startOf, countOf, numberIn, shownIn, zeros, shownOf, kept};
 
 // Eight cores, four worlds of each, nine numbers of each.
 pub type Saved = [u64; 288];
@@ -61,18 +61,6 @@ fn shown_in(part: &[u64]) -> Shown
         x2: number_in(part, 2),
         x3: number_in(part, 3),
     }
-}
-
-// Number i of one core and world.
-pub fn number(t: &Saved, core: u64, world: u64, i: u64) -> u64
-    ensures { λ r. ⌜ r ≡ saved (now (t .entry)) core world i ⌝ }
-{
-    let Start::At(a) = start_of(core, world) else {
-        return 0;
-    };
-    let s: &[u64] = t;
-    let e = a + 9;
-    number_in(&s[a..e], i)
 }
 
 // x0 to x3 of one core and world.
