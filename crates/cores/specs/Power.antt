@@ -3,6 +3,7 @@ use mathlib.Core.Path.{_≡_}
 use mathlib.Core.Bool.{Bool, true, false, _||_}
 use Prim.Native.Nat.{ℕ}
 use lib.Dec.{eqb}
+use Rattle.rules.specs.Sizes.{normal}
 use Rattle.rules.specs.Choice.{pick, pick-yes, pick-no, neither}
 use Rattle.cores.specs.declared.Power.{Power}
 use Rattle.cores.specs.declared.Turn.{Turn}
@@ -17,10 +18,6 @@ pending = 1
 
 abbrev pub on : ℕ
 on = 2
-
--- the world in which a core starts, arrives and resumes
-abbrev pub normal : ℕ
-normal = 2
 
 abbrev pub powerOf : ℕ → ℕ → ℕ → Power
 powerOf state start context = record { state = state; start = start; context = context }

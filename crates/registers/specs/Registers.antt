@@ -10,6 +10,7 @@ use lib.Dec.{ltb}
 use lib.ListN.{length, getD, set, take, drop, replicate, length-set, length-take, length-replicate, List·getD-eq-default, drop-of-length-le}
 use lib.Seq.{sets, length-sets, getD-set-same, getD-set-other, getD-take, getD-drop, drop-cons}
 use borrow.Author.Tests.{lt-ltb, le-ltb, ltb-true, ltb-false}
+use Rattle.rules.specs.Sizes.{worlds, mostCores}
 use Rattle.rules.specs.Choice.{pick, picked, passed, either}
 use Rattle.registers.specs.declared.Start.{Start}
 use Rattle.registers.specs.declared.Start.the-variants.{At, Nowhere}
@@ -17,22 +18,29 @@ use Rattle.registers.specs.declared.Shown.{Shown}
 
 -- ---- the table: eight cores, four worlds of each, nine numbers of each
 
+-- how many numbers are saved for each core and world, and how many in all
+abbrev pub each : ℕ
+each = 9
+
+abbrev pub numbers : ℕ
+numbers = mostCores * worlds * each
+
 pub Whole : List ℕ → Type 0
-Whole t = length t ≡ 288
+Whole t = length t ≡ numbers
 
 pub zeros : List ℕ
-zeros = replicate 288 0
+zeros = replicate numbers 0
 
 abbrev place : ℕ → ℕ → ℕ
-place c w = (c * 4 + w) * 9
+place c w = (c * worlds + w) * each
 
 -- where the numbers of a core and world begin
 pub startOf : ℕ → ℕ → Start
-startOf c w = pick (ltb c 8) (pick (ltb w 4) (At (place c w)) Nowhere) Nowhere
+startOf c w = pick (ltb c mostCores) (pick (ltb w worlds) (At (place c w)) Nowhere) Nowhere
 
 -- the part of the table that holds them
 partAt : List ℕ → Start → List ℕ
-partAt t (At a) = take 9 (drop a t)
+partAt t (At a) = take each (drop a t)
 partAt t Nowhere = []
 
 -- what a reader finds in such a part: number i, and 0 past its end
@@ -44,15 +52,15 @@ shownIn part = record { x0 = numberIn part 0; x1 = numberIn part 1; x2 = numberI
 
 -- the numbers xs in place of as many from there on, nine at most
 keptAt : List ℕ → Start → List ℕ → List ℕ
-keptAt t (At a) xs = sets t a (take 9 xs)
+keptAt t (At a) xs = sets t a (take each xs)
 keptAt t Nowhere xs = t
 
 pub countOf : ℕ → ℕ
-countOf n = pick (ltb n 9) n 9
+countOf n = pick (ltb n each) n each
 
 -- what the table is to be, once number i of xs and those after it are written
 pub left : List ℕ → ℕ → List ℕ → ℕ → List ℕ
-left t a xs i = sets t (a + i) (drop i (take 9 xs))
+left t a xs i = sets t (a + i) (drop i (take each xs))
 
 -- ---- what the promises say
 
@@ -70,35 +78,35 @@ kept t c w xs = keptAt t (startOf c w) xs
 
 -- ---- how the code meets these definitions
 
-pub zeros-made : replicate 288 0 ≡ zeros
+pub zeros-made : replicate numbers 0 ≡ zeros
 unfolding zeros
 zeros-made = refl
 
 module _ (c w : ℕ) where
-  pub start-here : c < 8 → w < 4 → At (place c w) ≡ startOf c w
+  pub start-here : c < mostCores → w < worlds → At (place c w) ≡ startOf c w
   unfolding startOf
-  start-here h k = picked _ _ _ _ (lt-ltb c 8 h) (picked _ _ _ _ (lt-ltb w 4 k) refl)
+  start-here h k = picked _ _ _ _ (lt-ltb c mostCores h) (picked _ _ _ _ (lt-ltb w worlds k) refl)
 
-  pub start-no-core : 8 ≤ c → Nowhere ≡ startOf c w
+  pub start-no-core : mostCores ≤ c → Nowhere ≡ startOf c w
   unfolding startOf
-  start-no-core h = passed _ _ _ _ (le-ltb c 8 h) refl
+  start-no-core h = passed _ _ _ _ (le-ltb c mostCores h) refl
 
-  pub start-no-world : c < 8 → 4 ≤ w → Nowhere ≡ startOf c w
+  pub start-no-world : c < mostCores → worlds ≤ w → Nowhere ≡ startOf c w
   unfolding startOf
-  start-no-world h k = picked _ _ _ _ (lt-ltb c 8 h) (passed _ _ _ _ (le-ltb w 4 k) refl)
+  start-no-world h k = picked _ _ _ _ (lt-ltb c mostCores h) (passed _ _ _ _ (le-ltb w worlds k) refl)
 
 pub ruleset starts = (start-here, start-no-core, start-no-world)
 
 -- a core and world have a place, or there is none
-placed : {P : Type 0} (c w : ℕ) → (c < 8 → w < 4 → startOf c w ≡ At (place c w) → P) → (startOf c w ≡ Nowhere → P) → P
+placed : {P : Type 0} (c w : ℕ) → (c < mostCores → w < worlds → startOf c w ≡ At (place c w) → P) → (startOf c w ≡ Nowhere → P) → P
 placed c w f g =
-    either (ltb c 8)
-    (λ e. let h = ltb-true c 8 e in
-    either (ltb w 4) (λ d. let k = ltb-true w 4 d in f h k (sym (start-here c w h k))) (λ d. g (sym (start-no-world c w h (ltb-false w 4 d)))))
-    (λ e. g (sym (start-no-core c w (ltb-false c 8 e))))
+    either (ltb c mostCores)
+    (λ e. let h = ltb-true c mostCores e in
+    either (ltb w worlds) (λ d. let k = ltb-true w worlds d in f h k (sym (start-here c w h k))) (λ d. g (sym (start-no-world c w h (ltb-false w worlds d)))))
+    (λ e. g (sym (start-no-core c w (ltb-false c mostCores e))))
 
 -- nine numbers stand from there on
-pub start-fits : (c w a : ℕ) (s : Start) → s ≡ startOf c w → s ≡ At a → a + 9 ≤ 288
+pub start-fits : (c w a : ℕ) (s : Start) → s ≡ startOf c w → s ≡ At a → a + each ≤ numbers
 start-fits c w a s f g =
     placed c w
     (λ h k e. let z : a ≡ place c w = cc in omega arith)
@@ -117,11 +125,11 @@ pub ruleset numbers-in = (number-there, number-past)
 
 module _ (t : List ℕ) (c w : ℕ) (s : Start) (f : s ≡ startOf c w) where
   module _ (a : ℕ) (g : s ≡ At a) where
-    part-there : take (a + 9 - a) (drop a t) ≡ partAt t (startOf c w)
+    part-there : take (a + each - a) (drop a t) ≡ partAt t (startOf c w)
     unfolding partAt
-    part-there = let n : a + 9 - a ≡ 9 = omega arith in rw (← f, g, n)
+    part-there = let n : a + each - a ≡ each = omega arith in rw (← f, g, n)
 
-    pub shown-there : (r : Shown) → r ≡ shownIn (take (a + 9 - a) (drop a t)) → r ≡ shownOf t c w
+    pub shown-there : (r : Shown) → r ≡ shownIn (take (a + each - a) (drop a t)) → r ≡ shownOf t c w
     unfolding shownIn shownOf saved
     shown-there r h = rw (← part-there) h
 
@@ -145,34 +153,34 @@ module _ (t : List ℕ) (c w : ℕ) (s : Start) (f : s ≡ startOf c w) where
 pub ruleset reading = (shown-there, shown-nowhere)
 
 module _ (n : ℕ) where
-  pub count-few : n < 9 → n ≡ countOf n
+  pub count-few : n < each → n ≡ countOf n
   unfolding countOf
-  count-few h = picked _ _ _ _ (lt-ltb n 9 h) refl
+  count-few h = picked _ _ _ _ (lt-ltb n each h) refl
 
-  pub count-nine : 9 ≤ n → 9 ≡ countOf n
+  pub count-nine : each ≤ n → each ≡ countOf n
   unfolding countOf
-  count-nine h = passed _ _ _ _ (le-ltb n 9 h) refl
+  count-nine h = passed _ _ _ _ (le-ltb n each h) refl
 
 pub ruleset counts = (count-few, count-nine)
 
-count-take : (xs : List ℕ) → countOf (length xs) ≡ length (take 9 xs)
+count-take : (xs : List ℕ) → countOf (length xs) ≡ length (take each xs)
 count-take xs =
-    either (ltb (length xs) 9)
-    (λ e. let h = ltb-true (length xs) 9 e in sym (count-few (length xs) h) ∙ sym (rw length-take (omega arith)))
-    (λ e. let h = ltb-false (length xs) 9 e in sym (count-nine (length xs) h) ∙ sym (rw length-take (omega arith)))
+    either (ltb (length xs) each)
+    (λ e. let h = ltb-true (length xs) each e in sym (count-few (length xs) h) ∙ sym (rw length-take (omega arith)))
+    (λ e. let h = ltb-false (length xs) each e in sym (count-nine (length xs) h) ∙ sym (rw length-take (omega arith)))
 
 -- the loop that writes n numbers of xs from a on has written i of them
 pub record Keeping (t₀ : List ℕ) (c w : ℕ) (xs : List ℕ) (a n : ℕ) (t : List ℕ) (i : ℕ) : Type 0 where
-  pub room : a + n ≤ 288
+  pub room : a + n ≤ numbers
   pub enough : n ≤ length xs
-  pub whole : n ≡ length (take 9 xs)
+  pub whole : n ≡ length (take each xs)
   pub rest : kept t₀ c w xs ≡ left t a xs i
 
 module _ (t₀ : List ℕ) (c w : ℕ) (xs : List ℕ) (a n : ℕ) where
   pub keeping-starts : (s : Start) → s ≡ startOf c w → s ≡ At a → n ≡ countOf (length xs) → Keeping t₀ c w xs a n t₀ 0
   keeping-starts s f g e =
-      let m : n ≡ length (take 9 xs) = e ∙ count-take xs in
-      let l = length-take 9 xs in
+      let m : n ≡ length (take each xs) = e ∙ count-take xs in
+      let l = length-take each xs in
       let h = start-fits c w a s f g in
       record { room = omega arith; enough = omega arith; whole = m; rest = left-all t₀ c w s f a g xs }
 
@@ -180,18 +188,18 @@ module _ (t₀ : List ℕ) (c w : ℕ) (xs : List ℕ) (a n : ℕ) where
     pub keeping-goes : (t′ : List ℕ) → t′ ≡ set t (a + i) (getD xs i 0) → i < n → Keeping t₀ c w xs a n t′ (i + 1)
     unfolding left
     keeping-goes t′ e h =
-        let l = length-take 9 xs in
+        let l = length-take each xs in
         let z : a + (i + 1) ≡ suc (a + i) = omega arith in
         record {
           room = k .room;
           enough = k .enough;
           whole = k .whole;
-          rest = k .rest ∙ rw (e, z, add-one i, drop-cons (take 9 xs) i 0 (omega arith), getD-take 9 xs i 0 (omega arith));
+          rest = k .rest ∙ rw (e, z, add-one i, drop-cons (take each xs) i 0 (omega arith), getD-take each xs i 0 (omega arith));
         }
 
     pub keeping-ends : n ≤ i → t ≡ kept t₀ c w xs
     unfolding left
-    keeping-ends h = sym (k .rest ∙ rw (drop-of-length-le (take 9 xs) {i = i} (omega arith)))
+    keeping-ends h = sym (k .rest ∙ rw (drop-of-length-le (take each xs) {i = i} (omega arith)))
 
 pub ruleset keeping = (keeping-starts, keeping-goes, keeping-ends, kept-nowhere)
 
@@ -223,32 +231,32 @@ module _ (t : List ℕ) (c w : ℕ) where
   kept-lost : startOf c w ≡ Nowhere → (xs : List ℕ) → kept t c w xs ≡ t
   kept-lost e xs = sym (kept-nowhere t c w Nowhere (sym e) refl xs)
 
-  pub saved-no-number : (i : ℕ) → 9 ≤ i → saved t c w i ≡ 0
+  pub saved-no-number : (i : ℕ) → each ≤ i → saved t c w i ≡ 0
   unfolding saved partAt numberIn
   saved-no-number i h =
       placed c w
-      (λ k l e. let n = length-take 9 (drop (place c w) t) in rw e (List·getD-eq-default (take 9 (drop (place c w) t)) 0 {n = i} (omega arith)))
+      (λ k l e. let n = length-take each (drop (place c w) t) in rw e (List·getD-eq-default (take each (drop (place c w) t)) 0 {n = i} (omega arith)))
       (λ e. rw e)
 
 -- a number is one of the nine of a core and world, or there is none in any table
-numbered : {P : Type 0} (c w i : ℕ) → (c < 8 → w < 4 → i < 9 → P) → (((t : List ℕ) → saved t c w i ≡ 0) → P) → P
+numbered : {P : Type 0} (c w i : ℕ) → (c < mostCores → w < worlds → i < each → P) → (((t : List ℕ) → saved t c w i ≡ 0) → P) → P
 numbered c w i f g =
     placed c w
-    (λ h k e. either (ltb i 9) (λ d. f h k (ltb-true i 9 d)) (λ d. g (λ t. saved-no-number t c w i (ltb-false i 9 d))))
+    (λ h k e. either (ltb i each) (λ d. f h k (ltb-true i each d)) (λ d. g (λ t. saved-no-number t c w i (ltb-false i each d))))
     (λ e. g (λ t. saved-lost t c w e i))
 
-module _ (t : List ℕ) (c w : ℕ) (h : c < 8) (k : w < 4) where
-  saved-is : (i : ℕ) → i < 9 → saved t c w i ≡ getD t (place c w + i) 0
+module _ (t : List ℕ) (c w : ℕ) (h : c < mostCores) (k : w < worlds) where
+  saved-is : (i : ℕ) → i < each → saved t c w i ≡ getD t (place c w + i) 0
   unfolding saved partAt numberIn
-  saved-is i l = rw (← start-here c w h k) (getD-take 9 (drop (place c w) t) i 0 l ∙ getD-drop (place c w) t i 0)
+  saved-is i l = rw (← start-here c w h k) (getD-take each (drop (place c w) t) i 0 l ∙ getD-drop (place c w) t i 0)
 
-  kept-is : (xs : List ℕ) → kept t c w xs ≡ sets t (place c w) (take 9 xs)
+  kept-is : (xs : List ℕ) → kept t c w xs ≡ sets t (place c w) (take each xs)
   unfolding kept keptAt
   kept-is xs = rw (← start-here c w h k)
 
 pub zeros-whole : Whole zeros
 unfolding zeros Whole
-zeros-whole = length-replicate {A = ℕ} 288 0
+zeros-whole = length-replicate {A = ℕ} numbers 0
 
 module _ (t : List ℕ) (c w : ℕ) (xs : List ℕ) where
   pub kept-whole : Whole t → Whole (kept t c w xs)
@@ -256,34 +264,34 @@ module _ (t : List ℕ) (c w : ℕ) (xs : List ℕ) where
   kept-whole a = placed c w (λ h k e. rw (kept-is t c w h k xs, length-sets) a) (λ e. rw (kept-lost t c w e xs) a)
 
   -- the numbers of xs stand from x0 on
-  pub kept-at : (j : ℕ) → Whole t → c < 8 → w < 4 → j < 9 → j < length xs → saved (kept t c w xs) c w j ≡ getD xs j 0
+  pub kept-at : (j : ℕ) → Whole t → c < mostCores → w < worlds → j < each → j < length xs → saved (kept t c w xs) c w j ≡ getD xs j 0
   unfolding Whole
   kept-at j a h k l m =
-      let n = length-take 9 xs in
+      let n = length-take each xs in
       saved-is (kept t c w xs) c w h k j l
-      ∙ rw (kept-is t c w h k xs) (sets-in (take 9 xs) t (place c w) j (omega arith) (omega arith))
-      ∙ getD-take 9 xs j 0 l
+      ∙ rw (kept-is t c w h k xs) (sets-in (take each xs) t (place c w) j (omega arith) (omega arith))
+      ∙ getD-take each xs j 0 l
 
   -- those past them stay
   pub kept-past : (j : ℕ) → length xs ≤ j → saved (kept t c w xs) c w j ≡ saved t c w j
   kept-past j m =
-      let n = length-take 9 xs in
+      let n = length-take each xs in
       numbered c w j
       (λ h k l. saved-is (kept t c w xs) c w h k j l
-      ∙ rw (kept-is t c w h k xs) (sets-past (take 9 xs) t (place c w) (place c w + j) (omega arith))
+      ∙ rw (kept-is t c w h k xs) (sets-past (take each xs) t (place c w) (place c w + j) (omega arith))
       ∙ sym (saved-is t c w h k j l))
       (λ z. z (kept t c w xs) ∙ sym (z t))
 
   -- nine numbers at one place are apart from nine at another
-  away : (d u j : ℕ) → (c ≡ d → w ≡ u → ⊥) → w < 4 → u < 4 → j < 9 → getD (sets t (place c w) (take 9 xs)) (place d u + j) 0 ≡ getD t (place d u + j) 0
+  away : (d u j : ℕ) → (c ≡ d → w ≡ u → ⊥) → w < worlds → u < worlds → j < each → getD (sets t (place c w) (take each xs)) (place d u + j) 0 ≡ getD t (place d u + j) 0
   away d u j o k q l =
-      let n = length-take 9 xs in
-      either (ltb (d * 4 + u) (c * 4 + w))
-      (λ b. let y = ltb-true (d * 4 + u) (c * 4 + w) b in sets-before (take 9 xs) t (place c w) (place d u + j) (omega arith))
+      let n = length-take each xs in
+      either (ltb (d * worlds + u) (c * worlds + w))
+      (λ b. let y = ltb-true (d * worlds + u) (c * worlds + w) b in sets-before (take each xs) t (place c w) (place d u + j) (omega arith))
       (λ b. ⊎-elim
-      (λ (y : c * 4 + w ≡ d * 4 + u). absurd (o (omega arith) (omega arith)))
-      (λ (y : c * 4 + w < d * 4 + u). sets-past (take 9 xs) t (place c w) (place d u + j) (omega arith))
-      (eq-or-lt-of-le (ltb-false (d * 4 + u) (c * 4 + w) b)))
+      (λ (y : c * worlds + w ≡ d * worlds + u). absurd (o (omega arith) (omega arith)))
+      (λ (y : c * worlds + w < d * worlds + u). sets-past (take each xs) t (place c w) (place d u + j) (omega arith))
+      (eq-or-lt-of-le (ltb-false (d * worlds + u) (c * worlds + w) b)))
 
   -- and so do those of another core or world
   pub kept-other : (d u j : ℕ) → (c ≡ d → w ≡ u → ⊥) → saved (kept t c w xs) d u j ≡ saved t d u j

@@ -3,9 +3,14 @@
 ghost use mathlib.Core.Path.{_≡_};
 ghost use mathlib.Core.List.{[], _∷_};
 ghost use Rattle.registers.specs.Registers.{startOf, countOf, numberIn, shownIn, zeros, shownOf, kept};
+use rules::MOST_CORES;
+use rules::WORLDS;
+
+// How many numbers are saved for each core and world.
+const EACH: usize = 9;
 
 // Eight cores, four worlds of each, nine numbers of each.
-pub type Saved = [u64; 288];
+pub type Saved = [u64; MOST_CORES as usize * WORLDS as usize * EACH];
 
 // What an accepted call's frame shows of a world: its first four numbers.
 pub struct Shown {
@@ -25,19 +30,20 @@ enum Start {
 pub fn fresh() -> Saved
     ensures { λ r. ⌜ r ≡ zeros ⌝ }
 {
-    [0; 288]
+    [0; MOST_CORES as usize * WORLDS as usize * EACH]
 }
 
 fn start_of(core: u64, world: u64) -> Start
     ensures { λ r. ⌜ r ≡ startOf core world ⌝ }
 {
-    if 8 <= core {
+    if MOST_CORES <= core {
         return Start::Nowhere;
     }
-    if 4 <= world {
+    if WORLDS <= world {
         return Start::Nowhere;
     }
-    Start::At((core as usize * 4 + world as usize) * 9)
+    let share = (core * WORLDS + world) as usize;
+    Start::At(share * EACH)
 }
 
 // A reader of the numbers of one core and world: number i of the part, 0 past its end.
@@ -76,7 +82,7 @@ pub fn show(t: &Saved, core: u64, world: u64) -> Shown
         };
     };
     let s: &[u64] = t;
-    let e = a + 9;
+    let e = a + EACH;
     shown_in(&s[a..e])
 }
 
@@ -84,10 +90,10 @@ pub fn show(t: &Saved, core: u64, world: u64) -> Shown
 fn count_of(n: usize) -> usize
     ensures { λ r. ⌜ r ≡ countOf n ⌝ }
 {
-    if n < 9 {
+    if n < EACH {
         return n;
     }
-    9
+    EACH
 }
 
 // The numbers xs take the place of as many from x0 on; those past the ninth are ignored.
