@@ -1,8 +1,8 @@
 // Tries entries on one ledger and looks pairs up in it, a line for each.
-use ledger::Entry;
 use ledger::Ledger;
 use ledger::Lookup;
 use libc::STDOUT_FILENO;
+use rules::Entered;
 
 // An entry of first and last owner, type and handler, or a lookup of type and owner.
 enum Step {
@@ -29,9 +29,9 @@ fn say_entry(first: u64, last: u64, kind: u64, handler: u64) {
 fn enter(t: &mut Ledger, first: u64, last: u64, kind: u64, handler: u64) {
     say_entry(first, last, kind, handler);
     match ledger::enter(t, first, last, kind, handler) {
-        Entry::Accepted => say(b": accepted\n"),
-        Entry::OutOfRange => say(b": out of range\n"),
-        Entry::Taken => say(b": taken\n"),
+        Entered::Accepted => say(b": accepted\n"),
+        Entered::OutOfRange => say(b": out of range\n"),
+        Entered::Taken => say(b": taken\n"),
     }
 }
 
