@@ -29,8 +29,8 @@ turns = 2 * mostCores
 pub power : List ℕ → ℕ → Power
 power t core = powerOf (read powers t (3 * core)) (read powers t (3 * core + 1)) (read powers t (3 * core + 2))
 
-pub powered : List ℕ → ℕ → Power → List ℕ
-powered t core p = write powers (write powers (write powers t (3 * core) (p .state)) (3 * core + 1) (p .start)) (3 * core + 2) (p .context)
+pub withPower : List ℕ → ℕ → Power → List ℕ
+withPower t core p = write powers (write powers (write powers t (3 * core) (p .state)) (3 * core + 1) (p .start)) (3 * core + 2) (p .context)
 
 -- core 0 is ON, the others OFF, with no start address and no context
 pub firstPowers : List ℕ
@@ -52,8 +52,8 @@ onMask t = mask (λ core. isOn (power t core)) 0 mostCores
 pub turn : List ℕ → ℕ → Turn
 turn t core = turnOf (read turns t (2 * core)) (eqb (read turns t (2 * core + 1)) 1)
 
-pub turned : List ℕ → ℕ → Turn → List ℕ
-turned t core r = write turns (write turns t (2 * core) (r .world)) (2 * core + 1) (bit (r .is_open))
+pub withTurn : List ℕ → ℕ → Turn → List ℕ
+withTurn t core r = write turns (write turns t (2 * core) (r .world)) (2 * core + 1) (bit (r .is_open))
 
 pub WholeTurns : List ℕ → Type 0
 WholeTurns t = Whole turns t
@@ -78,18 +78,18 @@ module _ (t : List ℕ) (core : ℕ) where
   power-out h =
       rw (past-read powers t (3 * core) (omega arith), past-read powers t (3 * core + 1) (omega arith), past-read powers t (3 * core + 2) (omega arith))
 
-  pub powered-in : (p : Power) → core < mostCores → set (set (set t (3 * core) (p .state)) (3 * core + 1) (p .start)) (3 * core + 2) (p .context) ≡ powered t core p
-  unfolding powered
-  powered-in p h =
+  pub with-power-in : (p : Power) → core < mostCores → set (set (set t (3 * core) (p .state)) (3 * core + 1) (p .start)) (3 * core + 2) (p .context) ≡ withPower t core p
+  unfolding withPower
+  with-power-in p h =
       let a : 3 * core < powers = omega arith in
       let b : 3 * core + 1 < powers = omega arith in
       let c : 3 * core + 2 < powers = omega arith in
       rw (write-in powers t (3 * core) (p .state) a, write-in powers (write powers t (3 * core) (p .state)) (3 * core + 1) (p .start) b)
       (write-in powers _ (3 * core + 2) (p .context) c)
 
-  pub powered-out : (p : Power) → mostCores ≤ core → t ≡ powered t core p
-  unfolding powered
-  powered-out p h =
+  pub with-power-out : (p : Power) → mostCores ≤ core → t ≡ withPower t core p
+  unfolding withPower
+  with-power-out p h =
       write-out powers t (3 * core) (p .state) (omega arith)
       ∙ write-out powers _ (3 * core + 1) (p .start) (omega arith)
       ∙ write-out powers _ (3 * core + 2) (p .context) (omega arith)
@@ -102,16 +102,16 @@ module _ (t : List ℕ) (core : ℕ) where
   unfolding turn
   turn-out h = rw (past-read turns t (2 * core) (omega arith), past-read turns t (2 * core + 1) (omega arith))
 
-  pub turned-in : (r : Turn) (d : ℕ) → core < mostCores → d ≡ bit (r .is_open) → set (set t (2 * core) (r .world)) (2 * core + 1) d ≡ turned t core r
-  unfolding turned
-  turned-in r d h e =
+  pub with-turn-in : (r : Turn) (d : ℕ) → core < mostCores → d ≡ bit (r .is_open) → set (set t (2 * core) (r .world)) (2 * core + 1) d ≡ withTurn t core r
+  unfolding withTurn
+  with-turn-in r d h e =
       rw (e, write-in turns t (2 * core) (r .world) (omega arith)) (write-in turns _ (2 * core + 1) (bit (r .is_open)) (omega arith))
 
-  pub turned-out : (r : Turn) → mostCores ≤ core → t ≡ turned t core r
-  unfolding turned
-  turned-out r h = write-out turns t (2 * core) (r .world) (omega arith) ∙ write-out turns _ (2 * core + 1) (bit (r .is_open)) (omega arith)
+  pub with-turn-out : (r : Turn) → mostCores ≤ core → t ≡ withTurn t core r
+  unfolding withTurn
+  with-turn-out r h = write-out turns t (2 * core) (r .world) (omega arith) ∙ write-out turns _ (2 * core + 1) (bit (r .is_open)) (omega arith)
 
-pub ruleset slots = (power-in, power-out, powered-in, powered-out, turn-in, turn-out, turned-in, turned-out)
+pub ruleset slots = (power-in, power-out, with-power-in, with-power-out, turn-in, turn-out, with-turn-in, with-turn-out)
 
 -- ---- what stands there after a write
 module _ (t : List ℕ) (core : ℕ) (p : Power) where
@@ -122,12 +122,12 @@ module _ (t : List ℕ) (core : ℕ) (p : Power) where
   abbrev twice : List ℕ
   twice = write powers once (3 * core + 1) (p .start)
 
-  pub powered-whole : WholePowers t → WholePowers (powered t core p)
-  unfolding powered WholePowers
-  powered-whole w = write-whole powers twice _ _ (write-whole powers once _ _ (write-whole powers t _ _ w))
+  pub with-power-whole : WholePowers t → WholePowers (withPower t core p)
+  unfolding withPower WholePowers
+  with-power-whole w = write-whole powers twice _ _ (write-whole powers once _ _ (write-whole powers t _ _ w))
 
-  pub power-same : WholePowers t → core < mostCores → power (powered t core p) core ≡ p
-  unfolding power powered WholePowers
+  pub power-same : WholePowers t → core < mostCores → power (withPower t core p) core ≡ p
+  unfolding power withPower WholePowers
   power-same w h =
       let whole : Whole powers once = write-whole powers t _ _ w in
       let still : Whole powers twice = write-whole powers once _ _ whole in
@@ -141,11 +141,11 @@ module _ (t : List ℕ) (core : ℕ) (p : Power) where
       )
 
   -- a number that is not of this core
-  aside : (i : ℕ) → (i ≡ 3 * core → ⊥) → (i ≡ 3 * core + 1 → ⊥) → (i ≡ 3 * core + 2 → ⊥) → read powers (powered t core p) i ≡ read powers t i
-  unfolding powered
+  aside : (i : ℕ) → (i ≡ 3 * core → ⊥) → (i ≡ 3 * core + 1 → ⊥) → (i ≡ 3 * core + 2 → ⊥) → read powers (withPower t core p) i ≡ read powers t i
+  unfolding withPower
   aside i a b c = write-other powers twice _ _ i c ∙ write-other powers once _ _ i b ∙ write-other powers t _ _ i a
 
-  pub power-other : (other : ℕ) → (other ≡ core → ⊥) → power (powered t core p) other ≡ power t other
+  pub power-other : (other : ℕ) → (other ≡ core → ⊥) → power (withPower t core p) other ≡ power t other
   unfolding power
   power-other other d =
       rw (
@@ -159,12 +159,12 @@ module _ (t : List ℕ) (core : ℕ) (r : Turn) where
   abbrev ran : List ℕ
   ran = write turns t (2 * core) (r .world)
 
-  pub turned-whole : WholeTurns t → WholeTurns (turned t core r)
-  unfolding turned WholeTurns
-  turned-whole w = write-whole turns ran _ _ (write-whole turns t _ _ w)
+  pub with-turn-whole : WholeTurns t → WholeTurns (withTurn t core r)
+  unfolding withTurn WholeTurns
+  with-turn-whole w = write-whole turns ran _ _ (write-whole turns t _ _ w)
 
-  pub turn-same : WholeTurns t → core < mostCores → turn (turned t core r) core ≡ r
-  unfolding turn turned WholeTurns
+  pub turn-same : WholeTurns t → core < mostCores → turn (withTurn t core r) core ≡ r
+  unfolding turn withTurn WholeTurns
   turn-same w h =
       rw (
         write-other turns ran (2 * core + 1) (bit (r .is_open)) (2 * core) (λ e. omega arith),
@@ -173,8 +173,8 @@ module _ (t : List ℕ) (core : ℕ) (r : Turn) where
         bit-told (r .is_open),
       )
 
-  pub turn-other : (other : ℕ) → (other ≡ core → ⊥) → turn (turned t core r) other ≡ turn t other
-  unfolding turn turned
+  pub turn-other : (other : ℕ) → (other ≡ core → ⊥) → turn (withTurn t core r) other ≡ turn t other
+  unfolding turn withTurn
   turn-other other d =
       rw (
         write-other turns ran (2 * core + 1) (bit (r .is_open)) (2 * other) (λ e. omega arith),

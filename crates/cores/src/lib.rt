@@ -3,7 +3,7 @@ ghost use mathlib.Core.Path.{_≡_};
 ghost use Prim.Native.Nat.{_≤_};
 ghost use Rattle.cores.specs.Power.{isOn, isPending, put, started, stopped, arrived, arrivalOf, handed, finished, entered};
 ghost use Rattle.cores.specs.Count.{bit};
-ghost use Rattle.cores.specs.Cores.{power, powered, firstPowers, turn, turned, firstTurns, onCount, onMask};
+ghost use Rattle.cores.specs.Cores.{power, withPower, firstPowers, turn, withTurn, firstTurns, onCount, onMask};
 use rules::MOST_CORES;
 use rules::NORMAL;
 use rules::ROOT;
@@ -189,7 +189,7 @@ pub fn power_of(t: &Powers, core: u64) -> Power
 
 // The power of a core is now this, if there is such a core.
 pub fn set_power(t: &mut Powers, core: u64, p: Power)
-    ensures { λ _. ⌜ now (t .exit) ≡ powered (now (t .entry)) core p ⌝ }
+    ensures { λ _. ⌜ now (t .exit) ≡ withPower (now (t .entry)) core p ⌝ }
 {
     if MOST_CORES <= core {
         return;
@@ -219,7 +219,7 @@ pub fn turn_of(t: &Turns, core: u64) -> Turn
 
 // The turn of a core is now this, if there is such a core.
 pub fn set_turn(t: &mut Turns, core: u64, r: Turn)
-    ensures { λ _. ⌜ now (t .exit) ≡ turned (now (t .entry)) core r ⌝ }
+    ensures { λ _. ⌜ now (t .exit) ≡ withTurn (now (t .entry)) core r ⌝ }
 {
     if MOST_CORES <= core {
         return;

@@ -50,8 +50,8 @@ unfoldable pub joined : Parts → Joined
 joined p = pick (fitting p) (Whole (wholeOf p)) TooLarge
 
 -- the one key by which identifiers are compared
-unfoldable pub matched : Identifier → ℕ
-matched i = i .0
+unfoldable pub keyOf : Identifier → ℕ
+keyOf i = i .0
 
 -- a fast identifier may have no reserved bit set; a yielding one may
 unfoldable pub admitted : Parts → Bool

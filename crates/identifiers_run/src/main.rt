@@ -32,7 +32,7 @@ fn say_parts(p: Parts) {
 fn show(x0: u64) {
     let i = Identifier::of(x0);
     let p = i.split();
-    number(b"", i.matched(), 8);
+    number(b"", i.key(), 8);
     say_parts(p);
     say(b"; ");
     say_joined(p);

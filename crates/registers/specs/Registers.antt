@@ -51,9 +51,9 @@ unfoldable pub shownIn : List ℕ → Shown
 shownIn part = record { x0 = numberIn part 0; x1 = numberIn part 1; x2 = numberIn part 2; x3 = numberIn part 3 }
 
 -- the numbers xs in place of as many from there on, nine at most
-keptAt : List ℕ → Start → List ℕ → List ℕ
-keptAt t (At a) xs = sets t a (take each xs)
-keptAt t Nowhere xs = t
+savingAt : List ℕ → Start → List ℕ → List ℕ
+savingAt t (At a) xs = sets t a (take each xs)
+savingAt t Nowhere xs = t
 
 pub countOf : ℕ → ℕ
 countOf n = pick (ltb n each) n each
@@ -73,8 +73,8 @@ unfoldable pub shownOf : List ℕ → ℕ → ℕ → Shown
 shownOf t c w = record { x0 = saved t c w 0; x1 = saved t c w 1; x2 = saved t c w 2; x3 = saved t c w 3 }
 
 -- the table after the numbers xs are written to a core and world, from x0 on
-pub kept : List ℕ → ℕ → ℕ → List ℕ → List ℕ
-kept t c w xs = keptAt t (startOf c w) xs
+pub saving : List ℕ → ℕ → ℕ → List ℕ → List ℕ
+saving t c w xs = savingAt t (startOf c w) xs
 
 -- ---- how the code meets these definitions
 
@@ -133,8 +133,8 @@ module _ (t : List ℕ) (c w : ℕ) (s : Start) (f : s ≡ startOf c w) where
     unfolding shownIn shownOf saved
     shown-there r h = rw (← part-there) h
 
-    left-all : (xs : List ℕ) → kept t c w xs ≡ left t a xs 0
-    unfolding kept keptAt left
+    left-all : (xs : List ℕ) → saving t c w xs ≡ left t a xs 0
+    unfolding saving savingAt left
     left-all xs = let z : a + 0 ≡ a = omega arith in rw (← f, g, z)
 
   module _ (g : s ≡ Nowhere) where
@@ -146,9 +146,9 @@ module _ (t : List ℕ) (c w : ℕ) (s : Start) (f : s ≡ startOf c w) where
     unfolding shownOf
     shown-nowhere = λ i. record { x0 = saved-nowhere 0 i; x1 = saved-nowhere 1 i; x2 = saved-nowhere 2 i; x3 = saved-nowhere 3 i }
 
-    pub kept-nowhere : (xs : List ℕ) → t ≡ kept t c w xs
-    unfolding kept keptAt
-    kept-nowhere xs = rw (← f, g)
+    pub saving-nowhere : (xs : List ℕ) → t ≡ saving t c w xs
+    unfolding saving savingAt
+    saving-nowhere xs = rw (← f, g)
 
 pub ruleset reading = (shown-there, shown-nowhere)
 
@@ -170,24 +170,24 @@ count-take xs =
     (λ e. let h = ltb-false (length xs) each e in sym (count-nine (length xs) h) ∙ sym (rw length-take (omega arith)))
 
 -- the loop that writes n numbers of xs from a on has written i of them
-pub record Keeping (t₀ : List ℕ) (c w : ℕ) (xs : List ℕ) (a n : ℕ) (t : List ℕ) (i : ℕ) : Type 0 where
+pub record Writing (t₀ : List ℕ) (c w : ℕ) (xs : List ℕ) (a n : ℕ) (t : List ℕ) (i : ℕ) : Type 0 where
   pub room : a + n ≤ numbers
   pub enough : n ≤ length xs
   pub whole : n ≡ length (take each xs)
-  pub rest : kept t₀ c w xs ≡ left t a xs i
+  pub rest : saving t₀ c w xs ≡ left t a xs i
 
 module _ (t₀ : List ℕ) (c w : ℕ) (xs : List ℕ) (a n : ℕ) where
-  pub keeping-starts : (s : Start) → s ≡ startOf c w → s ≡ At a → n ≡ countOf (length xs) → Keeping t₀ c w xs a n t₀ 0
-  keeping-starts s f g e =
+  pub writing-starts : (s : Start) → s ≡ startOf c w → s ≡ At a → n ≡ countOf (length xs) → Writing t₀ c w xs a n t₀ 0
+  writing-starts s f g e =
       let m : n ≡ length (take each xs) = e ∙ count-take xs in
       let l = length-take each xs in
       let h = start-fits c w a s f g in
       record { room = omega arith; enough = omega arith; whole = m; rest = left-all t₀ c w s f a g xs }
 
-  module _ (t : List ℕ) (i : ℕ) (k : Keeping t₀ c w xs a n t i) where
-    pub keeping-goes : (t′ : List ℕ) → t′ ≡ set t (a + i) (getD xs i 0) → i < n → Keeping t₀ c w xs a n t′ (i + 1)
+  module _ (t : List ℕ) (i : ℕ) (k : Writing t₀ c w xs a n t i) where
+    pub writing-goes : (t′ : List ℕ) → t′ ≡ set t (a + i) (getD xs i 0) → i < n → Writing t₀ c w xs a n t′ (i + 1)
     unfolding left
-    keeping-goes t′ e h =
+    writing-goes t′ e h =
         let l = length-take each xs in
         let z : a + (i + 1) ≡ suc (a + i) = omega arith in
         record {
@@ -197,11 +197,11 @@ module _ (t₀ : List ℕ) (c w : ℕ) (xs : List ℕ) (a n : ℕ) where
           rest = k .rest ∙ rw (e, z, add-one i, drop-cons (take each xs) i 0 (omega arith), getD-take each xs i 0 (omega arith));
         }
 
-    pub keeping-ends : n ≤ i → t ≡ kept t₀ c w xs
+    pub writing-ends : n ≤ i → t ≡ saving t₀ c w xs
     unfolding left
-    keeping-ends h = sym (k .rest ∙ rw (drop-of-length-le (take each xs) {i = i} (omega arith)))
+    writing-ends h = sym (k .rest ∙ rw (drop-of-length-le (take each xs) {i = i} (omega arith)))
 
-pub ruleset keeping = (keeping-starts, keeping-goes, keeping-ends, kept-nowhere)
+pub ruleset writing = (writing-starts, writing-goes, writing-ends, saving-nowhere)
 
 -- ---- a run of numbers written into a table: which ones change
 sets-before : (vs t : List ℕ) (a k : ℕ) → k < a → getD (sets t a vs) k 0 ≡ getD t k 0
@@ -228,8 +228,8 @@ module _ (t : List ℕ) (c w : ℕ) where
   saved-lost : startOf c w ≡ Nowhere → (i : ℕ) → saved t c w i ≡ 0
   saved-lost e i = sym (saved-nowhere t c w Nowhere (sym e) refl i)
 
-  kept-lost : startOf c w ≡ Nowhere → (xs : List ℕ) → kept t c w xs ≡ t
-  kept-lost e xs = sym (kept-nowhere t c w Nowhere (sym e) refl xs)
+  saving-lost : startOf c w ≡ Nowhere → (xs : List ℕ) → saving t c w xs ≡ t
+  saving-lost e xs = sym (saving-nowhere t c w Nowhere (sym e) refl xs)
 
   pub saved-no-number : (i : ℕ) → each ≤ i → saved t c w i ≡ 0
   unfolding saved partAt numberIn
@@ -250,37 +250,37 @@ module _ (t : List ℕ) (c w : ℕ) (h : c < mostCores) (k : w < worlds) where
   unfolding saved partAt numberIn
   saved-is i l = rw (← start-here c w h k) (getD-take each (drop (place c w) t) i 0 l ∙ getD-drop (place c w) t i 0)
 
-  kept-is : (xs : List ℕ) → kept t c w xs ≡ sets t (place c w) (take each xs)
-  unfolding kept keptAt
-  kept-is xs = rw (← start-here c w h k)
+  saving-is : (xs : List ℕ) → saving t c w xs ≡ sets t (place c w) (take each xs)
+  unfolding saving savingAt
+  saving-is xs = rw (← start-here c w h k)
 
 pub zeros-whole : Whole zeros
 unfolding zeros Whole
 zeros-whole = length-replicate {A = ℕ} numbers 0
 
 module _ (t : List ℕ) (c w : ℕ) (xs : List ℕ) where
-  pub kept-whole : Whole t → Whole (kept t c w xs)
+  pub saving-whole : Whole t → Whole (saving t c w xs)
   unfolding Whole
-  kept-whole a = placed c w (λ h k e. rw (kept-is t c w h k xs, length-sets) a) (λ e. rw (kept-lost t c w e xs) a)
+  saving-whole a = placed c w (λ h k e. rw (saving-is t c w h k xs, length-sets) a) (λ e. rw (saving-lost t c w e xs) a)
 
   -- the numbers of xs stand from x0 on
-  pub kept-at : (j : ℕ) → Whole t → c < mostCores → w < worlds → j < each → j < length xs → saved (kept t c w xs) c w j ≡ getD xs j 0
+  pub saving-at : (j : ℕ) → Whole t → c < mostCores → w < worlds → j < each → j < length xs → saved (saving t c w xs) c w j ≡ getD xs j 0
   unfolding Whole
-  kept-at j a h k l m =
+  saving-at j a h k l m =
       let n = length-take each xs in
-      saved-is (kept t c w xs) c w h k j l
-      ∙ rw (kept-is t c w h k xs) (sets-in (take each xs) t (place c w) j (omega arith) (omega arith))
+      saved-is (saving t c w xs) c w h k j l
+      ∙ rw (saving-is t c w h k xs) (sets-in (take each xs) t (place c w) j (omega arith) (omega arith))
       ∙ getD-take each xs j 0 l
 
   -- those past them stay
-  pub kept-past : (j : ℕ) → length xs ≤ j → saved (kept t c w xs) c w j ≡ saved t c w j
-  kept-past j m =
+  pub saving-past : (j : ℕ) → length xs ≤ j → saved (saving t c w xs) c w j ≡ saved t c w j
+  saving-past j m =
       let n = length-take each xs in
       numbered c w j
-      (λ h k l. saved-is (kept t c w xs) c w h k j l
-      ∙ rw (kept-is t c w h k xs) (sets-past (take each xs) t (place c w) (place c w + j) (omega arith))
+      (λ h k l. saved-is (saving t c w xs) c w h k j l
+      ∙ rw (saving-is t c w h k xs) (sets-past (take each xs) t (place c w) (place c w + j) (omega arith))
       ∙ sym (saved-is t c w h k j l))
-      (λ z. z (kept t c w xs) ∙ sym (z t))
+      (λ z. z (saving t c w xs) ∙ sym (z t))
 
   -- nine numbers at one place are apart from nine at another
   away : (d u j : ℕ) → (c ≡ d → w ≡ u → ⊥) → w < worlds → u < worlds → j < each → getD (sets t (place c w) (take each xs)) (place d u + j) 0 ≡ getD t (place d u + j) 0
@@ -294,14 +294,14 @@ module _ (t : List ℕ) (c w : ℕ) (xs : List ℕ) where
       (eq-or-lt-of-le (ltb-false (d * worlds + u) (c * worlds + w) b)))
 
   -- and so do those of another core or world
-  pub kept-other : (d u j : ℕ) → (c ≡ d → w ≡ u → ⊥) → saved (kept t c w xs) d u j ≡ saved t d u j
-  kept-other d u j o =
+  pub saving-other : (d u j : ℕ) → (c ≡ d → w ≡ u → ⊥) → saved (saving t c w xs) d u j ≡ saved t d u j
+  saving-other d u j o =
       placed c w
       (λ h k e. numbered d u j
-      (λ p q l. saved-is (kept t c w xs) d u p q j l ∙ rw (kept-is t c w h k xs) (away d u j o k q l) ∙ sym (saved-is t d u p q j l))
-      (λ z. z (kept t c w xs) ∙ sym (z t)))
-      (λ e. rw (kept-lost t c w e xs))
+      (λ p q l. saved-is (saving t c w xs) d u p q j l ∙ rw (saving-is t c w h k xs) (away d u j o k q l) ∙ sym (saved-is t d u p q j l))
+      (λ z. z (saving t c w xs) ∙ sym (z t)))
+      (λ e. rw (saving-lost t c w e xs))
 
 -- writing nothing changes nothing
-pub kept-none : (t : List ℕ) (c w : ℕ) → kept t c w [] ≡ t
-kept-none t c w = placed c w (λ h k e. kept-is t c w h k []) (λ e. kept-lost t c w e [])
+pub saving-none : (t : List ℕ) (c w : ℕ) → saving t c w [] ≡ t
+saving-none t c w = placed c w (λ h k e. saving-is t c w h k []) (λ e. saving-lost t c w e [])

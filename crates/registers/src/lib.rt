@@ -2,7 +2,7 @@
 // Where there is no such core, world or number, reading gives 0 and writing changes nothing.
 ghost use mathlib.Core.Path.{_≡_};
 ghost use mathlib.Core.List.{[], _∷_};
-ghost use Rattle.registers.specs.Registers.{startOf, countOf, numberIn, shownIn, zeros, shownOf, kept};
+ghost use Rattle.registers.specs.Registers.{startOf, countOf, numberIn, shownIn, zeros, shownOf, saving};
 use rules::MOST_CORES;
 use rules::WORLDS;
 
@@ -97,8 +97,8 @@ fn count_of(n: usize) -> usize
 }
 
 // The numbers xs take the place of as many from x0 on; those past the ninth are ignored.
-pub fn keep(t: &mut Saved, core: u64, world: u64, xs: &[u64])
-    ensures { λ _. ⌜ now (t .exit) ≡ kept (now (t .entry)) core world (now (xs .entry)) ⌝ }
+pub fn save(t: &mut Saved, core: u64, world: u64, xs: &[u64])
+    ensures { λ _. ⌜ now (t .exit) ≡ saving (now (t .entry)) core world (now (xs .entry)) ⌝ }
 {
     let Start::At(a) = start_of(core, world) else {
         return;
@@ -112,22 +112,22 @@ pub fn keep(t: &mut Saved, core: u64, world: u64, xs: &[u64])
 }
 
 // x0 alone: the answer of a call with one result.
-pub fn keep_one(t: &mut Saved, core: u64, world: u64, v: u64)
-    ensures { λ _. ⌜ now (t .exit) ≡ kept (now (t .entry)) core world (v ∷ []) ⌝ }
+pub fn save_one(t: &mut Saved, core: u64, world: u64, v: u64)
+    ensures { λ _. ⌜ now (t .exit) ≡ saving (now (t .entry)) core world (v ∷ []) ⌝ }
 {
-    keep(t, core, world, &[v]);
+    save(t, core, world, &[v]);
 }
 
 // x0 to x2: the answer of a call with three results.
-pub fn keep_three(t: &mut Saved, core: u64, world: u64, a: u64, b: u64, c: u64)
-    ensures { λ _. ⌜ now (t .exit) ≡ kept (now (t .entry)) core world (a ∷ b ∷ c ∷ []) ⌝ }
+pub fn save_three(t: &mut Saved, core: u64, world: u64, a: u64, b: u64, c: u64)
+    ensures { λ _. ⌜ now (t .exit) ≡ saving (now (t .entry)) core world (a ∷ b ∷ c ∷ []) ⌝ }
 {
-    keep(t, core, world, &[a, b, c]);
+    save(t, core, world, &[a, b, c]);
 }
 
 // All nine, as a core finds them that arrives: the context first, then seven zeros, then where it starts.
-pub fn keep_start(t: &mut Saved, core: u64, world: u64, context: u64, address: u64)
-    ensures { λ _. ⌜ now (t .exit) ≡ kept (now (t .entry)) core world (context ∷ 0 ∷ 0 ∷ 0 ∷ 0 ∷ 0 ∷ 0 ∷ 0 ∷ address ∷ []) ⌝ }
+pub fn save_start(t: &mut Saved, core: u64, world: u64, context: u64, address: u64)
+    ensures { λ _. ⌜ now (t .exit) ≡ saving (now (t .entry)) core world (context ∷ 0 ∷ 0 ∷ 0 ∷ 0 ∷ 0 ∷ 0 ∷ 0 ∷ address ∷ []) ⌝ }
 {
-    keep(t, core, world, &[context, 0, 0, 0, 0, 0, 0, 0, address]);
+    save(t, core, world, &[context, 0, 0, 0, 0, 0, 0, 0, address]);
 }

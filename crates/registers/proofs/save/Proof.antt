@@ -1,12 +1,12 @@
--- After i turns the first i numbers are written, and writing the rest makes the table that is promised (`Keeping`); the measure is how many are left.
+-- After i turns the first i numbers are written, and writing the rest makes the table that is promised (`Writing`); the measure is how many are left.
 use Prim.Native.Nat.{_-_}
-use Rattle.registers.specs.Registers.{Keeping, keeping}
+use Rattle.registers.specs.Registers.{Writing, writing}
 use borrow.Author.Needs.{needs}
-use Rattle.registers.proofs.keep.Statement.{statement}
-use Rattle.registers.proofs.keep.Tie as tie
+use Rattle.registers.proofs.save.Statement.{statement}
+use Rattle.registers.proofs.save.Tie as tie
 
 abbrev Inv-loop : tie.InvT-loop
-Inv-loop t₀ core world xs a n i₀ t i = Keeping t₀ core world xs a n t i
+Inv-loop t₀ core world xs a n i₀ t i = Writing t₀ core world xs a n t i
 
 abbrev μ-loop : tie.MeasureT-loop
 μ-loop t₀ core world xs a n i₀ t i = n - i
@@ -21,13 +21,13 @@ enum-told : tie.Need-enum-told Inv-loop μ-loop
 enum-told c = search needs
 
 returns : tie.Need-returns Inv-loop μ-loop
-returns c = search keeping
+returns c = search writing
 
 count-of-requires : tie.Need-count-of-requires Inv-loop μ-loop
 count-of-requires c κs = search needs
 
 loop-holds : tie.Need-loop-holds Inv-loop μ-loop
-loop-holds c = search keeping
+loop-holds c = search writing
 
 mul-t : tie.Need-mul-t Inv-loop μ-loop
 mul-t c = search needs
@@ -51,13 +51,13 @@ loop-less : tie.Need-loop-less Inv-loop μ-loop
 loop-less c = search needs
 
 loop-again : tie.Need-loop-again Inv-loop μ-loop
-loop-again c = search (needs, keeping)
+loop-again c = search (needs, writing)
 
 returns-2 : tie.Need-returns-2 Inv-loop μ-loop
-returns-2 c = search (needs, keeping)
+returns-2 c = search (needs, writing)
 
-pub keep-spec : {M : Type 1} → statement M
-keep-spec =
+pub save-spec : {M : Type 1} → statement M
+save-spec =
     tie.close
     (tie.spec
     Inv-loop
