@@ -10,13 +10,13 @@ use lib.Seq.{getD-take, getD-drop}
 use Rattle.rules.specs.Choice.{pick-yes, pick-no, either}
 use Rattle.rules.specs.declared.Reason.{Reason}
 use Rattle.identifiers.specs.declared.Parts.{Parts}
-use Rattle.registers.specs.Registers.{Whole, saved, kept, kept-whole, kept-at, kept-past, kept-other}
+use Rattle.registers.specs.Registers.{Whole, saved, saving, saving-whole, saving-at, saving-past, saving-other}
 use Rattle.cores.specs.Power.{powerOf, turnOf, put, off, pending, on, isOn, isPending, started, stopped, started-off, stopped-on, arrived-pending, handed, finished}
-use Rattle.cores.specs.Cores.{WholePowers, WholeTurns, power, powered, turn, turned, power-same, power-other, powered-whole, turn-same, turn-other, turned-whole}
-use Rattle.pages.specs.Sizes.{lastWorld}
+use Rattle.cores.specs.Cores.{WholePowers, WholeTurns, power, withPower, turn, withTurn, power-same, power-other, with-power-whole, turn-same, turn-other, with-turn-whole}
+use Rattle.rules.specs.Sizes.{lastWorld}
 use Rattle.pages.specs.Owners.{WholeOwners, owner}
 use Rattle.pages.specs.declared.Window.{Window}
-use Rattle.mapping.specs.declared.Mapping.{Mapping}
+use Rattle.ranges.specs.declared.Mapping.{Mapping}
 use Rattle.transfers.specs.Kept.{Movable, move-granted, carried-whole, carried-from, carried-inside, carried-outside}
 use Rattle.mapping.specs.Lists.{WholeLists, held, holding-whole, holding-other, released-whole, released-other}
 use Rattle.judging.specs.Names.{secure, normal, realm}
@@ -71,7 +71,7 @@ stepped-by s core xs d e = rw e
 -- A refused call leaves every table but the caller's numbers: the frame's eight, and over them x0 alone, the refusal's number.
 pub refused : (s : State) (core : ℕ) (xs : List ℕ) (r : Reason) → answerIn s core xs ≡ No r
     → after s core xs ≡ state (s .site) (s .ledger) (s .owners)
-    (kept (kept (s .saved) core (callerOf s core) xs) core (callerOf s core) ((2 ^ 64 - minus r) ∷ []))
+    (saving (saving (s .saved) core (callerOf s core) xs) core (callerOf s core) ((2 ^ 64 - minus r) ∷ []))
     (s .powers) (s .turns) (s .lists)
 refused s core xs r e = stepped-by s core xs Nothing (grounded (sight s core) xs .quiet r e) ∙ rw e
 
@@ -106,8 +106,8 @@ deed-spares (Map m) r core caller xs c u j n = refl
 deed-spares (Unmap virt size) r core caller xs c u j n = refl
 deed-spares (Start k a x) r core caller xs c u j n = refl
 deed-spares Stop r core caller xs c u j n = refl
-deed-spares (HandOver to) r core caller xs c u j n = kept-other r core to xs c u j n
-deed-spares Finish r core caller xs c u j n = kept-other r core normal (take 4 (drop 1 xs)) c u j n
+deed-spares (HandOver to) r core caller xs c u j n = saving-other r core to xs c u j n
+deed-spares Finish r core caller xs c u j n = saving-other r core normal (take 4 (drop 1 xs)) c u j n
 
 -- no deed that has its grounds writes the caller's numbers
 never-own : (v : View) (d : Deed) → Grounds v d → Receives d (v .seen .caller) → ⊥
@@ -135,10 +135,10 @@ written-few p (No r) = omega arith
 
 module _ (r : List ℕ) (core caller : ℕ) (xs : List ℕ) (a : Answer) where
   answered-other : (c u j : ℕ) → (core ≡ c → caller ≡ u → ⊥) → saved (answeredIn r core caller xs a) c u j ≡ saved r c u j
-  answered-other c u j n = kept-other (kept r core caller xs) core caller (written (calledBy xs) a) c u j n ∙ kept-other r core caller xs c u j n
+  answered-other c u j n = saving-other (saving r core caller xs) core caller (written (calledBy xs) a) c u j n ∙ saving-other r core caller xs c u j n
 
   answered-whole : Whole r → Whole (answeredIn r core caller xs a)
-  answered-whole w = kept-whole _ core caller _ (kept-whole r core caller xs w)
+  answered-whole w = saving-whole _ core caller _ (saving-whole r core caller xs w)
 
 module _ (s : State) (core : ℕ) (xs : List ℕ) where
   saved-is : after s core xs .saved ≡ savedBy (deedIn s core xs) (answeredBy s core xs) core (callerOf s core) xs
@@ -172,24 +172,24 @@ module _ (s : State) (core : ℕ) (xs : List ℕ) where
       → saved (after s core xs .saved) core (callerOf s core) j ≡ getD (resultsIn s core xs) j 0
   own-results j w h k l =
       let few = written-few (calledBy xs) (answerIn s core xs) in
-      own-numbers j ∙ kept-at (kept (s .saved) core (callerOf s core) xs) core (callerOf s core) (resultsIn s core xs) j
-      (kept-whole (s .saved) core (callerOf s core) xs w) h k (omega arith) l
+      own-numbers j ∙ saving-at (saving (s .saved) core (callerOf s core) xs) core (callerOf s core) (resultsIn s core xs) j
+      (saving-whole (s .saved) core (callerOf s core) xs w) h k (omega arith) l
 
   -- What it does not list keeps the frame's number.
   pub own-frame : (j : ℕ) → Whole (s .saved) → core < 8 → callerOf s core < 4 → j < 9 → j < length xs → length (resultsIn s core xs) ≤ j
       → saved (after s core xs .saved) core (callerOf s core) j ≡ getD xs j 0
   own-frame j w h k l m n =
       own-numbers j
-      ∙ kept-past (kept (s .saved) core (callerOf s core) xs) core (callerOf s core) (resultsIn s core xs) j n
-      ∙ kept-at (s .saved) core (callerOf s core) xs j w h k l m
+      ∙ saving-past (saving (s .saved) core (callerOf s core) xs) core (callerOf s core) (resultsIn s core xs) j n
+      ∙ saving-at (s .saved) core (callerOf s core) xs j w h k l m
 
   -- The caller's start address stays, as does every number past the frame's.
   pub own-past : (j : ℕ) → 3 ≤ j → length xs ≤ j → saved (after s core xs .saved) core (callerOf s core) j ≡ saved (s .saved) core (callerOf s core) j
   own-past j h l =
       let few = written-few (calledBy xs) (answerIn s core xs) in
       own-numbers j
-      ∙ kept-past (kept (s .saved) core (callerOf s core) xs) core (callerOf s core) (resultsIn s core xs) j (omega arith)
-      ∙ kept-past (s .saved) core (callerOf s core) xs j l
+      ∙ saving-past (saving (s .saved) core (callerOf s core) xs) core (callerOf s core) (resultsIn s core xs) j (omega arith)
+      ∙ saving-past (s .saved) core (callerOf s core) xs j l
 
   module _ (to : ℕ) (e : deedIn s core xs ≡ HandOver to) where
     pub hands : (callerOf s core ≡ normal) × Takes to
@@ -199,12 +199,12 @@ module _ (s : State) (core : ℕ) (xs : List ℕ) where
     pub handed-numbers : (j : ℕ) → Whole (s .saved) → core < 8 → length xs ≡ 8 → j < 8 → saved (after s core xs .saved) core to j ≡ getD xs j 0
     handed-numbers j w h l k =
         let t : to < 4 = ⊎-elim (λ (y : to ≡ secure). omega arith) (λ (y : to ≡ realm). omega arith) (hands .1) in
-        rw (saved-is, e) (kept-at (answeredBy s core xs) core to xs j (answered-whole (s .saved) core (callerOf s core) xs (answerIn s core xs) w) h t (omega arith) (omega arith))
+        rw (saved-is, e) (saving-at (answeredBy s core xs) core to xs j (answered-whole (s .saved) core (callerOf s core) xs (answerIn s core xs) w) h t (omega arith) (omega arith))
 
     -- The receiver's other numbers stay.
     pub handed-rest : (j : ℕ) → length xs ≤ j → saved (after s core xs .saved) core to j ≡ saved (s .saved) core to j
     handed-rest j l =
-        rw (saved-is, e) (kept-past (answeredBy s core xs) core to xs j l
+        rw (saved-is, e) (saving-past (answeredBy s core xs) core to xs j l
         ∙ answered-other (s .saved) core (callerOf s core) xs (answerIn s core xs) core to j
         (λ y z. ⊎-elim (λ (y : to ≡ secure). omega (arith, hands .0)) (λ (y : to ≡ realm). omega (arith, hands .0)) (hands .1)))
 
@@ -216,14 +216,14 @@ module _ (s : State) (core : ℕ) (xs : List ℕ) where
     pub finished-numbers : (j : ℕ) → Whole (s .saved) → core < 8 → length xs ≡ 8 → j < 4 → saved (after s core xs .saved) core normal j ≡ getD xs (1 + j) 0
     finished-numbers j w h l k =
         let n : length (take 4 (drop 1 xs)) ≡ 4 = simp (length-take, length-drop) (omega arith) in
-        rw (saved-is, e) (kept-at (answeredBy s core xs) core normal (take 4 (drop 1 xs)) j (answered-whole (s .saved) core (callerOf s core) xs (answerIn s core xs) w) h (omega arith) (omega arith) (omega arith)
+        rw (saved-is, e) (saving-at (answeredBy s core xs) core normal (take 4 (drop 1 xs)) j (answered-whole (s .saved) core (callerOf s core) xs (answerIn s core xs) w) h (omega arith) (omega arith) (omega arith)
         ∙ getD-take 4 (drop 1 xs) j 0 k ∙ getD-drop 1 xs j 0)
 
     -- Normal's other numbers stay.
     pub finished-rest : (j : ℕ) → 4 ≤ j → saved (after s core xs .saved) core normal j ≡ saved (s .saved) core normal j
     finished-rest j l =
         let n : length (take 4 (drop 1 xs)) ≤ 4 = simp (length-take, length-drop) (omega arith) in
-        rw (saved-is, e) (kept-past (answeredBy s core xs) core normal (take 4 (drop 1 xs)) j (omega arith)
+        rw (saved-is, e) (saving-past (answeredBy s core xs) core normal (take 4 (drop 1 xs)) j (omega arith)
         ∙ answered-other (s .saved) core (callerOf s core) xs (answerIn s core xs) core normal j
         (λ y z. ⊎-elim (λ (k : callerOf s core ≡ secure). omega arith) (λ (k : callerOf s core ≡ realm). omega arith) (finishes .0)))
 
@@ -393,9 +393,9 @@ seated s a = (state (s .site) (s .ledger) (s .owners) (a .0 .saved) (a .0 .power
 abbrev pub comeIn : State → ℕ → State
 comeIn s core =
     state (s .site) (s .ledger) (s .owners)
-    (kept (s .saved) core normal (startNumbers (power (s .powers) core)))
-    (powered (s .powers) core (put (power (s .powers) core) on))
-    (turned (s .turns) core (turnOf normal false))
+    (saving (s .saved) core normal (startNumbers (power (s .powers) core)))
+    (withPower (s .powers) core (put (power (s .powers) core) on))
+    (withTurn (s .turns) core (turnOf normal false))
     (s .lists)
 
 module _ (s : State) (core : ℕ) where
@@ -421,7 +421,7 @@ module _ (s : State) (core : ℕ) where
   -- An arrival leaves every number but those of Normal on its core.
   pub arrival-saved : (c u j : ℕ) → (core ≡ c → normal ≡ u → ⊥) → saved (afterArrival s core .saved) c u j ≡ saved (s .saved) c u j
   arrival-saved c u j n =
-      arrival-by (λ (q : State). saved (q .saved) c u j ≡ saved (s .saved) c u j) refl (λ y. kept-other (s .saved) core normal (startNumbers (power (s .powers) core)) c u j n)
+      arrival-by (λ (q : State). saved (q .saved) c u j ≡ saved (s .saved) c u j) refl (λ y. saving-other (s .saved) core normal (startNumbers (power (s .powers) core)) c u j n)
 
   -- It leaves the power of every other core, and what runs there.
   pub arrival-power : (c : ℕ) → (c ≡ core → ⊥) → power (afterArrival s core .powers) c ≡ power (s .powers) c
@@ -436,7 +436,7 @@ module _ (s : State) (core : ℕ) where
     pub arrived-numbers : (j : ℕ) → Whole (s .saved) → j < 9 → saved (afterArrival s core .saved) core normal j ≡ getD (startNumbers (power (s .powers) core)) j 0
     arrived-numbers j w l =
         arrived-by (λ (q : State). saved (q .saved) core normal j ≡ getD (startNumbers (power (s .powers) core)) j 0) y
-        (kept-at (s .saved) core normal (startNumbers (power (s .powers) core)) j w h (omega arith) l (omega arith))
+        (saving-at (s .saved) core normal (startNumbers (power (s .powers) core)) j w h (omega arith) l (omega arith))
 
     -- It is ON, in Normal, with nothing open.
     pub arrived-power : WholePowers (s .powers) → power (afterArrival s core .powers) core ≡ put (power (s .powers) core) on
@@ -466,13 +466,13 @@ deed-whole (Map m) s core caller xs w =
 deed-whole (Unmap virt size) s core caller xs w =
     record { owners-whole = w .owners-whole; saved-whole = w .saved-whole; powers-whole = w .powers-whole; turns-whole = w .turns-whole; lists-whole = released-whole _ caller virt size (w .lists-whole) }
 deed-whole (Start c a x) s core caller xs w =
-    record { owners-whole = w .owners-whole; saved-whole = w .saved-whole; powers-whole = powered-whole _ c _ (w .powers-whole); turns-whole = w .turns-whole; lists-whole = w .lists-whole }
+    record { owners-whole = w .owners-whole; saved-whole = w .saved-whole; powers-whole = with-power-whole _ c _ (w .powers-whole); turns-whole = w .turns-whole; lists-whole = w .lists-whole }
 deed-whole Stop s core caller xs w =
-    record { owners-whole = w .owners-whole; saved-whole = w .saved-whole; powers-whole = powered-whole _ core _ (w .powers-whole); turns-whole = w .turns-whole; lists-whole = w .lists-whole }
+    record { owners-whole = w .owners-whole; saved-whole = w .saved-whole; powers-whole = with-power-whole _ core _ (w .powers-whole); turns-whole = w .turns-whole; lists-whole = w .lists-whole }
 deed-whole (HandOver to) s core caller xs w =
-    record { owners-whole = w .owners-whole; saved-whole = kept-whole _ core to xs (w .saved-whole); powers-whole = w .powers-whole; turns-whole = turned-whole _ core _ (w .turns-whole); lists-whole = w .lists-whole }
+    record { owners-whole = w .owners-whole; saved-whole = saving-whole _ core to xs (w .saved-whole); powers-whole = w .powers-whole; turns-whole = with-turn-whole _ core _ (w .turns-whole); lists-whole = w .lists-whole }
 deed-whole Finish s core caller xs w =
-    record { owners-whole = w .owners-whole; saved-whole = kept-whole _ core normal _ (w .saved-whole); powers-whole = w .powers-whole; turns-whole = turned-whole _ core _ (w .turns-whole); lists-whole = w .lists-whole }
+    record { owners-whole = w .owners-whole; saved-whole = saving-whole _ core normal _ (w .saved-whole); powers-whole = w .powers-whole; turns-whole = with-turn-whole _ core _ (w .turns-whole); lists-whole = w .lists-whole }
 
 -- A call leaves every table whole.
 pub called-whole : (s : State) (core : ℕ) (xs : List ℕ) → WholeTables s → WholeTables (after s core xs)
@@ -492,9 +492,9 @@ pub come-whole : (s : State) (core : ℕ) → WholeTables s → WholeTables (com
 come-whole s core w =
     record {
       owners-whole = w .owners-whole;
-      saved-whole = kept-whole _ core normal _ (w .saved-whole);
-      powers-whole = powered-whole _ core _ (w .powers-whole);
-      turns-whole = turned-whole _ core _ (w .turns-whole);
+      saved-whole = saving-whole _ core normal _ (w .saved-whole);
+      powers-whole = with-power-whole _ core _ (w .powers-whole);
+      turns-whole = with-turn-whole _ core _ (w .turns-whole);
       lists-whole = w .lists-whole;
     }
 

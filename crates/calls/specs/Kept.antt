@@ -13,12 +13,12 @@ use Rattle.registers.specs.Registers.{zeros, zeros-whole}
 use Rattle.cores.specs.Cores.{power, turn, power-other, turn-same, turn-other, firstPowers, firstTurns, first-powers-whole, first-power-other, first-turns-whole, first-turn}
 use Rattle.cores.specs.declared.Power.{Power}
 use Rattle.cores.specs.declared.Turn.{Turn}
-use Rattle.pages.specs.Sizes.{lastWorld}
+use Rattle.rules.specs.Sizes.{lastWorld}
 use Rattle.pages.specs.Window.{acceptable}
 use Rattle.pages.specs.Owners.{WholeOwners, owner}
 use Rattle.mapping.specs.Lists.{unmapped, unmapped-whole, held, held-unmapped, holding, holding-other, holding-inserts, released-other, released-takes}
 use Rattle.mapping.specs.Sound.{Sound, sound-none, granted-room, granted-formed, granted-keeps, without-keeps}
-use Rattle.mapping.specs.declared.Mapping.{Mapping}
+use Rattle.ranges.specs.declared.Mapping.{Mapping}
 use Rattle.transfers.specs.Transfer.{moveVerdict, carried}
 use Rattle.transfers.specs.Kept.{carried-keeps, carried-worlds}
 use Rattle.transfers.specs.declared.Verdict.the-variants as Moving

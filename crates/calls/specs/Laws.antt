@@ -11,15 +11,15 @@ use Rattle.rules.specs.declared.Reason.{Reason}
 use Rattle.identifiers.specs.Identifier.{identifierOf, parts}
 use Rattle.identifiers.specs.declared.Identifier.{Identifier}
 use Rattle.identifiers.specs.declared.Parts.{Parts}
-use Rattle.registers.specs.Registers.{kept, kept-none}
+use Rattle.registers.specs.Registers.{saving, saving-none}
 use Rattle.cores.specs.Power.{started, stopped, arrived, arrivalOf, isPending, handed, finished, entered, arrived-pending}
-use Rattle.cores.specs.Cores.{power, powered, turn, turned}
+use Rattle.cores.specs.Cores.{power, withPower, turn, withTurn}
 use Rattle.cores.specs.declared.Power.{Power}
 use Rattle.cores.specs.declared.Turn.{Turn}
 use Rattle.cores.specs.declared.Arriving.{Arriving}
 use Rattle.pages.specs.declared.Window.{Window}
 use Rattle.mapping.specs.Lists.{held, holding, released}
-use Rattle.mapping.specs.declared.Mapping.{Mapping}
+use Rattle.ranges.specs.declared.Mapping.{Mapping}
 use Rattle.transfers.specs.Transfer.{carried}
 use Rattle.judging.specs.Names.{normal}
 use Rattle.judging.specs.Judge.{viewed, sighted, judged}
@@ -36,22 +36,22 @@ use Rattle.calls.specs.declared.Made.{Made}
 
 -- ---- what an answer writes
 module _ (p : Parts) (a : Answer) (r r′ : List ℕ) (c w : ℕ) where
-  pub writes : (b : Answer) → a ≡ b → r′ ≡ kept r c w (written p b) → r′ ≡ kept r c w (written p a)
+  pub writes : (b : Answer) → a ≡ b → r′ ≡ saving r c w (written p b) → r′ ≡ saving r c w (written p a)
   writes b e h = rw e h
 
-  pub writes-owns : (is : Bool) (n : ℕ) → a ≡ Owns is → n ≡ bit is → r′ ≡ kept r c w (n ∷ []) → r′ ≡ kept r c w (written p a)
+  pub writes-owns : (is : Bool) (n : ℕ) → a ≡ Owns is → n ≡ bit is → r′ ≡ saving r c w (n ∷ []) → r′ ≡ saving r c w (written p a)
   writes-owns is n e f h = rw (e, ← f) h
 
-  pub writes-nothing : a ≡ Silent → r′ ≡ r → r′ ≡ kept r c w (written p a)
-  writes-nothing e h = rw e (h ∙ sym (kept-none r c w))
+  pub writes-nothing : a ≡ Silent → r′ ≡ r → r′ ≡ saving r c w (written p a)
+  writes-nothing e h = rw e (h ∙ sym (saving-none r c w))
 
-  pub writes-no : (q : Reason) (n : ℕ) → a ≡ No q → n ≡ negative p (minus q) → r′ ≡ kept r c w (n ∷ []) → r′ ≡ kept r c w (written p a)
+  pub writes-no : (q : Reason) (n : ℕ) → a ≡ No q → n ≡ negative p (minus q) → r′ ≡ saving r c w (n ∷ []) → r′ ≡ saving r c w (written p a)
   writes-no q n e f h = rw (e, ← f) h
 
 pub ruleset answers = (writes-owns, writes-nothing, writes-no, writes)
 
 pub answered : (r q r′ xs : List ℕ) (c w : ℕ) (id : Identifier) (p : Parts) (a : Answer) (x0 : ℕ)
-    → q ≡ kept r c w xs → x0 ≡ lib.ListN.getD xs 0 0 → id ≡ identifierOf x0 → p ≡ parts id → r′ ≡ kept q c w (written p a) → r′ ≡ answeredIn r c w xs a
+    → q ≡ saving r c w xs → x0 ≡ lib.ListN.getD xs 0 0 → id ≡ identifierOf x0 → p ≡ parts id → r′ ≡ saving q c w (written p a) → r′ ≡ answeredIn r c w xs a
 answered r q r′ xs c w id p a x0 e z f g h = rw (← z, ← f, ← g, ← e) h
 
 -- ---- what a deed does
@@ -59,22 +59,22 @@ module _ (d : Deed) (t t′ : List ℕ) where
   pub by-move : (w : Window) (start count to : ℕ) → d ≡ Move start count to → t′ ≡ carried w t start count to → t′ ≡ ownersBy d w t
   by-move w start count to e h = rw e h
 
-  pub by-hand-over : (core caller to : ℕ) (xs : List ℕ) → d ≡ HandOver to → t′ ≡ kept t core to xs → t′ ≡ savedBy d t core caller xs
+  pub by-hand-over : (core caller to : ℕ) (xs : List ℕ) → d ≡ HandOver to → t′ ≡ saving t core to xs → t′ ≡ savedBy d t core caller xs
   by-hand-over core caller to xs e h = rw e h
 
-  pub by-finish : (core caller : ℕ) (xs : List ℕ) → d ≡ Finish → t′ ≡ kept t core normal (take 4 (drop 1 xs)) → t′ ≡ savedBy d t core caller xs
+  pub by-finish : (core caller : ℕ) (xs : List ℕ) → d ≡ Finish → t′ ≡ saving t core normal (take 4 (drop 1 xs)) → t′ ≡ savedBy d t core caller xs
   by-finish core caller xs e h = rw e h
 
-  pub by-start : (core c a x : ℕ) (p q : Power) → d ≡ Start c a x → p ≡ power t c → q ≡ started p a x → t′ ≡ powered t c q → t′ ≡ powersBy d t core
+  pub by-start : (core c a x : ℕ) (p q : Power) → d ≡ Start c a x → p ≡ power t c → q ≡ started p a x → t′ ≡ withPower t c q → t′ ≡ powersBy d t core
   by-start core c a x p q e f g h = rw (e, ← f, ← g) h
 
-  pub by-stop : (core : ℕ) (p q : Power) → d ≡ Stop → p ≡ power t core → q ≡ stopped p → t′ ≡ powered t core q → t′ ≡ powersBy d t core
+  pub by-stop : (core : ℕ) (p q : Power) → d ≡ Stop → p ≡ power t core → q ≡ stopped p → t′ ≡ withPower t core q → t′ ≡ powersBy d t core
   by-stop core p q e f g h = rw (e, ← f, ← g) h
 
-  pub by-handed : (core to : ℕ) (p q : Turn) → d ≡ HandOver to → p ≡ turn t core → q ≡ handed p to → t′ ≡ turned t core q → t′ ≡ turnsBy d t core
+  pub by-handed : (core to : ℕ) (p q : Turn) → d ≡ HandOver to → p ≡ turn t core → q ≡ handed p to → t′ ≡ withTurn t core q → t′ ≡ turnsBy d t core
   by-handed core to p q e f g h = rw (e, ← g) h
 
-  pub by-finished : (core : ℕ) (p q : Turn) → d ≡ Finish → p ≡ turn t core → q ≡ finished p → t′ ≡ turned t core q → t′ ≡ turnsBy d t core
+  pub by-finished : (core : ℕ) (p q : Turn) → d ≡ Finish → p ≡ turn t core → q ≡ finished p → t′ ≡ withTurn t core q → t′ ≡ turnsBy d t core
   by-finished core p q e f g h = rw (e, ← g) h
 
   pub by-map : (caller : ℕ) (m : Mapping) → d ≡ Map m → t′ ≡ holding t caller m → t′ ≡ listsBy d t caller
@@ -107,8 +107,8 @@ module _ (r p t : List ℕ) (core : ℕ) (x : Power) (y : Arriving) (was : x ≡
       let n : isPending (power p core) ≡ false = not-true (isPending (power p core)) (rw (is, was) at e) in
       sym (pick-no _ _ _ n)
 
-  pub comes : (r′ p′ t′ : List ℕ) (z u : Turn) → not (y .came) ≡ false → p′ ≡ powered p core (y .power) → z ≡ turn t core → u ≡ entered z → t′ ≡ turned t core u
-      → r′ ≡ kept r core normal (y .power .context ∷ 0 ∷ 0 ∷ 0 ∷ 0 ∷ 0 ∷ 0 ∷ 0 ∷ y .power .start ∷ [])
+  pub comes : (r′ p′ t′ : List ℕ) (z u : Turn) → not (y .came) ≡ false → p′ ≡ withPower p core (y .power) → z ≡ turn t core → u ≡ entered z → t′ ≡ withTurn t core u
+      → r′ ≡ saving r core normal (y .power .context ∷ 0 ∷ 0 ∷ 0 ∷ 0 ∷ 0 ∷ 0 ∷ 0 ∷ y .power .start ∷ [])
       → (seat r′ p′ t′, true) ≡ arrivedIn (seat r p t) core
   unfolding arrivedIn
   comes r′ p′ t′ z u e ep ez eu et er =
@@ -116,7 +116,7 @@ module _ (r p t : List ℕ) (core : ℕ) (x : Power) (y : Arriving) (was : x ≡
       let a : y .power ≡ arrived (power p core) = rw (is, was) in
       let b : y .power .context ≡ power p core .context = rw (a, arrived-pending (power p core) n) in
       let d : y .power .start ≡ power p core .start = rw (a, arrived-pending (power p core) n) in
-      let f : p′ ≡ powered p core (arrived (power p core)) = ep ∙ ap (powered p core) a in
+      let f : p′ ≡ withPower p core (arrived (power p core)) = ep ∙ ap (withPower p core) a in
       sym (pick-yes _ _ _ n ∙ rw (er, f, et, eu, b, d))
 
 pub ruleset arrivals = (stays-away, comes)

@@ -4,9 +4,9 @@ use mathlib.Core.List.{List, [], _∷_}
 use Prim.Native.Nat.{ℕ}
 use lib.ListN.{take, drop}
 use Rattle.rules.specs.Choice.{pick}
-use Rattle.registers.specs.Registers.{kept}
+use Rattle.registers.specs.Registers.{saving}
 use Rattle.cores.specs.Power.{started, stopped, arrived, isPending, handed, finished, entered}
-use Rattle.cores.specs.Cores.{power, powered, turn, turned}
+use Rattle.cores.specs.Cores.{power, withPower, turn, withTurn}
 use Rattle.cores.specs.declared.Power.{Power}
 use Rattle.cores.specs.declared.Turn.{Turn}
 use Rattle.pages.specs.declared.Window.{Window}
@@ -73,16 +73,16 @@ savedBy (Map m) r core caller xs = r
 savedBy (Unmap virt size) r core caller xs = r
 savedBy (Start c a x) r core caller xs = r
 savedBy Stop r core caller xs = r
-savedBy (HandOver to) r core caller xs = kept r core to xs
-savedBy Finish r core caller xs = kept r core normal (take (returned caller) (drop 1 xs))
+savedBy (HandOver to) r core caller xs = saving r core to xs
+savedBy Finish r core caller xs = saving r core normal (take (returned caller) (drop 1 xs))
 
 abbrev pub powersBy : Deed → List ℕ → ℕ → List ℕ
 powersBy Nothing t core = t
 powersBy (Move start count to) t core = t
 powersBy (Map m) t core = t
 powersBy (Unmap virt size) t core = t
-powersBy (Start c a x) t core = powered t c (started (power t c) a x)
-powersBy Stop t core = powered t core (stopped (power t core))
+powersBy (Start c a x) t core = withPower t c (started (power t c) a x)
+powersBy Stop t core = withPower t core (stopped (power t core))
 powersBy (HandOver to) t core = t
 powersBy Finish t core = t
 
@@ -93,8 +93,8 @@ turnsBy (Map m) t core = t
 turnsBy (Unmap virt size) t core = t
 turnsBy (Start c a x) t core = t
 turnsBy Stop t core = t
-turnsBy (HandOver to) t core = turned t core (handed (turn t core) to)
-turnsBy Finish t core = turned t core (finished (turn t core))
+turnsBy (HandOver to) t core = withTurn t core (handed (turn t core) to)
+turnsBy Finish t core = withTurn t core (finished (turn t core))
 
 abbrev pub listsBy : Deed → List ℕ → ℕ → List ℕ
 listsBy Nothing t caller = t
@@ -108,7 +108,7 @@ listsBy Finish t caller = t
 
 -- the frame's eight numbers, and over them the answer's results
 abbrev pub answeredIn : List ℕ → ℕ → ℕ → List ℕ → Answer → List ℕ
-answeredIn r core caller xs a = kept (kept r core caller xs) core caller (written (calledBy xs) a)
+answeredIn r core caller xs a = saving (saving r core caller xs) core caller (written (calledBy xs) a)
 
 -- ---- a call
 unfoldable pub applied : State → ℕ → ℕ → List ℕ → Judged → State
@@ -144,9 +144,9 @@ startNumbers p = p .context ∷ 0 ∷ 0 ∷ 0 ∷ 0 ∷ 0 ∷ 0 ∷ 0 ∷ p .sta
 unfoldable pub arrivedIn : Seat → ℕ → Seat × Bool
 arrivedIn s core =
     pick (isPending (power (s .powers) core)) (
-      seat (kept (s .saved) core normal (startNumbers (power (s .powers) core)))
-          (powered (s .powers) core (arrived (power (s .powers) core)))
-          (turned (s .turns) core (entered (turn (s .turns) core))),
+      seat (saving (s .saved) core normal (startNumbers (power (s .powers) core)))
+          (withPower (s .powers) core (arrived (power (s .powers) core)))
+          (withTurn (s .turns) core (entered (turn (s .turns) core))),
       true,
     )
     (s, false)

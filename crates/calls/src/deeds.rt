@@ -50,8 +50,8 @@ pub fn do_saved(t: &mut Saved, core: u64, caller: u64, x: &[u64; 8], d: Deed)
             context: _,
         } => {}
         Deed::Stop => {}
-        Deed::HandOver(to) => registers::keep(t, core, to, s),
-        Deed::Finish => registers::keep(t, core, names::NORMAL, &s[1..5]),
+        Deed::HandOver(to) => registers::save(t, core, to, s),
+        Deed::Finish => registers::save(t, core, names::NORMAL, &s[1..5]),
     }
 }
 

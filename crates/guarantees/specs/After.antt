@@ -15,12 +15,12 @@ use Rattle.cores.specs.Cores.{power, turn, firstPowers, firstTurns, first-power
 use Rattle.cores.specs.declared.Power.{Power}
 use Rattle.pages.specs.Owners.{owner, unowned-owner}
 use Rattle.mapping.specs.Lists.{held, held-unmapped}
-use Rattle.mapping.specs.Ranges.{meet, meet-if, within-low, within-high}
+use Rattle.ranges.specs.Ranges.{meet, meet-if, within-low, within-high}
 use Rattle.mapping.specs.Mapping.{holds, clashes, clash, anyOf, firstOf, deciding, leadOf}
 use Rattle.mapping.specs.Entries.{Apart}
 use Rattle.mapping.specs.Sound.{Sound, covers, sound-none}
 use Rattle.mapping.specs.Once.{coverings, covered-few, one-covers, lead-exact}
-use Rattle.mapping.specs.declared.Mapping.{Mapping}
+use Rattle.ranges.specs.declared.Mapping.{Mapping}
 use Rattle.mapping.specs.declared.Lead.the-variants.{To}
 use Rattle.judging.specs.Grounds.{Calls}
 use Rattle.calls.specs.Kept.{Right}

@@ -13,7 +13,7 @@ use Rattle.ledger.specs.Ledger.{empty, handler, entered, isAccepted}
 use Rattle.ledger.specs.Only.{only}
 use Rattle.ledger.specs.OneHandler.{Attempt, One, answer, accepted, covers, one-handler}
 use Rattle.ledger.specs.OneHandler as OneHandler
-use Rattle.ledger.specs.declared.Entry.the-variants as Entry
+use Rattle.rules.specs.declared.Entered.the-variants as Entered
 use Rattle.judging.specs.Names.{secure, normal, realm}
 use Rattle.judging.specs.Judge.{calledBy, argsOf, found, oneOf, callers}
 use Rattle.judging.specs.Grounds.{Calls, Takes}
@@ -61,7 +61,7 @@ entries m (e ∷ rest) = pick (fine (reply m e)) (entryOf (e .0)) [] ++ entries 
 -- ---- one line
 data Enters (m : Machine) (l : List Attempt) (o : Machine) : Type 0 where
   none : l ≡ [] → o .ledger ≡ m .ledger → Enters m l o
-  one : (a : Attempt) → l ≡ a ∷ [] → answer (m .ledger) a ≡ Entry.Accepted → o .ledger ≡ OneHandler.next (m .ledger) a → Enters m l o
+  one : (a : Attempt) → l ≡ a ∷ [] → answer (m .ledger) a ≡ Entered.Accepted → o .ledger ≡ OneHandler.next (m .ledger) a → Enters m l o
 
 not-fine : (why : Status) → (why ≡ Accepted → ⊥) → isFine why ≡ false
 not-fine Accepted n = absurd (n refl)

@@ -11,12 +11,12 @@ use Rattle.ledger.specs.Ledger.{empty}
 use Rattle.registers.specs.Registers.{zeros}
 use Rattle.cores.specs.Power.{isOn, isPending}
 use Rattle.cores.specs.Cores.{power, firstPowers, firstTurns}
-use Rattle.pages.specs.Sizes.{lastWorld}
+use Rattle.rules.specs.Sizes.{lastWorld}
 use Rattle.pages.specs.Window.{acceptable}
 use Rattle.pages.specs.Owners.{unowned, unowned-whole, unowned-owner, given, given-whole, given-worlds}
 use Rattle.pages.specs.Named.{WholeNamed, unnamed, unnamed-whole, marked, marked-whole}
 use Rattle.pages.specs.Naming.{naming, Granted, naming-granted}
-use Rattle.pages.specs.declared.Naming.the-variants as Naming
+use Rattle.rules.specs.declared.Entered.the-variants as Entered
 use Rattle.mapping.specs.Lists.{unmapped, held-unmapped}
 use Rattle.mapping.specs.Sound.{sound-none}
 use Rattle.calls.specs.Step.{State, state, called, applied, arrivedIn}

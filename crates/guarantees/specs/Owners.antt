@@ -15,7 +15,7 @@ use Rattle.pages.specs.Owners.{owner, unowned-owner}
 use Rattle.pages.specs.Named.{isNamed, free-at}
 use Rattle.pages.specs.Naming.{naming, Granted, naming-granted, granted-inside, granted-outside}
 use Rattle.pages.specs.declared.Place.the-variants.{Page}
-use Rattle.pages.specs.declared.Naming.the-variants as Naming
+use Rattle.rules.specs.declared.Entered.the-variants as Entered
 use Rattle.judging.specs.declared.Deed.{Deed}
 use Rattle.judging.specs.declared.Deed.the-variants.{Nothing, Move, Map, Unmap, Start, Stop, HandOver, Finish}
 use Rattle.calls.specs.Step.{State, sight, called, applied, arrivedIn}
@@ -88,7 +88,7 @@ transfer-or-not Finish y n = n (λ k. k)
 
 module _ (m : Machine) (fit : Fit m) (e : Event) (page : ℕ) where
   -- an accepted naming
-  naming-outcome : (lowest count to : ℕ) → m .setup .ready ≡ true → naming (m .owners) (m .named) (m .setup .site .window .pages) lowest count to .0 ≡ Naming.Done
+  naming-outcome : (lowest count to : ℕ) → m .setup .ready ≡ true → naming (m .owners) (m .named) (m .setup .site .window .pages) lowest count to .0 ≡ Entered.Accepted
       → e .0 ≡ Frame.Name lowest count to → reply m e ≡ Told Accepted → (o : Machine) → o .owners ≡ naming (m .owners) (m .named) (m .setup .site .window .pages) lowest count to .1 .0
       → Outcome m e page o
   naming-outcome lowest count to a c is told o w =

@@ -9,7 +9,7 @@ use Rattle.rules.specs.Choice.{pick}
 use Rattle.rules.specs.declared.Reason.{Reason}
 use Rattle.ledger.specs.Ledger.{handler}
 use Rattle.identifiers.specs.Identifier.{admitted}
-use Rattle.registers.specs.Registers.{saved, kept}
+use Rattle.registers.specs.Registers.{saved, saving}
 use Rattle.cores.specs.Power.{turnOf, put, on, isOn, isPending}
 use Rattle.cores.specs.Cores.{power, turn}
 use Rattle.pages.specs.Owners.{owner, countOwned}
@@ -19,7 +19,7 @@ use Rattle.mapping.specs.Mapping.{holds, deciding, leadOf}
 use Rattle.mapping.specs.Entries.{Every}
 use Rattle.mapping.specs.Sound.{covers, Formed}
 use Rattle.mapping.specs.Once.{coverings, countCovered}
-use Rattle.mapping.specs.declared.Mapping.{Mapping}
+use Rattle.ranges.specs.declared.Mapping.{Mapping}
 use Rattle.mapping.specs.declared.Lead.the-variants.{To}
 use Rattle.judging.specs.Names.{normal}
 use Rattle.judging.specs.Judge.{calledBy, argsOf, found}
@@ -110,7 +110,7 @@ abbrev pub denied : Machine → ℕ → List ℕ → Reason → Machine
 denied m core xs r =
     let caller = callerOf (stateOf m) core in
     machine (over (m .setup)) (m .named) (m .ledger) (m .owners)
-    (kept (kept (m .saved) core caller xs) core caller ((2 ^ 64 - minus r) ∷ []))
+    (saving (saving (m .saved) core caller xs) core caller ((2 ^ 64 - minus r) ∷ []))
     (m .powers) (m .turns) (m .lists)
 
 pub record Heeded (m : Machine) (e : Event) (last : Machine) (answer : Reply) : Type 0 where

@@ -5,7 +5,7 @@ use mathlib.Core.List.{List, [], _∷_}
 use Prim.Native.Nat.{ℕ}
 use lib.Dec.{eqb}
 use lib.ListN.{getD}
-use Rattle.identifiers.specs.Identifier.{identifierOf, parts, matched}
+use Rattle.identifiers.specs.Identifier.{identifierOf, parts, keyOf}
 use Rattle.identifiers.specs.declared.Identifier.{Identifier}
 use Rattle.identifiers.specs.declared.Parts.{Parts}
 use Rattle.rules.specs.Tests.{contraries, numbers}
@@ -16,7 +16,7 @@ use Rattle.ledger.specs.declared.Lookup.the-variants.{Handler, Nobody}
 use Rattle.pages.specs.Owners.{owner}
 use Rattle.pages.specs.declared.Place.{Place}
 use Rattle.pages.specs.declared.Place.the-variants.{Page, Outside}
-use Rattle.mapping.specs.declared.Mapping.{Mapping}
+use Rattle.ranges.specs.declared.Mapping.{Mapping}
 use Rattle.mapping.specs.declared.Verdict.{Verdict}
 use Rattle.mapping.specs.declared.Verdict.the-variants as Verdict
 use Rattle.mapping.specs.declared.Lead.{Lead}
@@ -109,7 +109,7 @@ module _ (k l : Lead) (r : Judged) (same : k ≡ l) where
 
 -- ---- the call that eight numbers make
 pub judged-is : (s : Sight) (xs : List ℕ) (id : Identifier) (p : Parts) (a : Args) (key : ℕ) (r : Judged)
-    → id ≡ identifierOf (getD xs 0 0) → p ≡ parts id → a ≡ argsOf p xs → key ≡ matched id → r ≡ judgedBy s p a key → r ≡ judged s xs
+    → id ≡ identifierOf (getD xs 0 0) → p ≡ parts id → a ≡ argsOf p xs → key ≡ keyOf id → r ≡ judgedBy s p a key → r ≡ judged s xs
 unfolding judged
 judged-is s xs id p a key r i e f g h = rw (← i, ← e, ← f, ← g) h
 

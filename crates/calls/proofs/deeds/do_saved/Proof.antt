@@ -25,23 +25,23 @@ enum-told-6 c = search needs
 enum-known-d : tie.Need-enum-known-d
 enum-known-d c = search needs
 
-keep-requires : tie.Need-keep-requires
-keep-requires c κs = search needs
+save-requires : tie.Need-save-requires
+save-requires c κs = search needs
 
 enum-told-7 : tie.Need-enum-told-7
 enum-told-7 c = search needs
 
-sub-keep : tie.Need-sub-keep
-sub-keep c = search needs
+sub-save : tie.Need-sub-save
+sub-save c = search needs
 
-part-keep-start : tie.Need-part-keep-start
-part-keep-start c = search needs
+part-save-start : tie.Need-part-save-start
+part-save-start c = search needs
 
-part-keep-end : tie.Need-part-keep-end
-part-keep-end c = search needs
+part-save-end : tie.Need-part-save-end
+part-save-end c = search needs
 
-keep-requires-2 : tie.Need-keep-requires-2
-keep-requires-2 c κs = search needs
+save-requires-2 : tie.Need-save-requires-2
+save-requires-2 c κs = search needs
 
 returns : tie.Need-returns
 returns c = search (needs, deeds)
@@ -78,12 +78,12 @@ do-saved-spec =
     enum-told-5
     enum-told-6
     enum-known-d
-    keep-requires
+    save-requires
     enum-told-7
-    sub-keep
-    part-keep-start
-    part-keep-end
-    keep-requires-2
+    sub-save
+    part-save-start
+    part-save-end
+    save-requires-2
     returns
     returns-2
     returns-3
