@@ -6,8 +6,8 @@ use lib.Dec.{leb}
 use Rattle.rules.specs.Choice.{pick}
 use Rattle.rules.specs.Tests.{Test, refuses, sieve}
 use Rattle.ledger.specs.Ledger.{empty, entered}
-use Rattle.ledger.specs.declared.Entry.{Entry}
-use Rattle.ledger.specs.declared.Entry.the-variants as Entry
+use Rattle.rules.specs.declared.Entered.{Entered}
+use Rattle.rules.specs.declared.Entered.the-variants as Entered
 use Rattle.registers.specs.Registers.{zeros, shownOf}
 use Rattle.cores.specs.Power.{isOn, isPending}
 use Rattle.cores.specs.Cores.{power, turn, firstPowers, firstTurns}
@@ -15,8 +15,6 @@ use Rattle.pages.specs.Window.{acceptable}
 use Rattle.pages.specs.Owners.{unowned}
 use Rattle.pages.specs.Named.{unnamed}
 use Rattle.pages.specs.Naming.{naming}
-use Rattle.pages.specs.declared.Naming.{Naming}
-use Rattle.pages.specs.declared.Naming.the-variants as Naming
 use Rattle.mapping.specs.Lists.{unmapped}
 use Rattle.judging.specs.Names.{normal}
 use Rattle.calls.specs.Step.{State, state, called, Seat, seat, arrivedIn}
@@ -85,15 +83,10 @@ unfoldable pub late : Setup → Bool
 late s = not (s .ready) || s .ended
 
 -- how the ledger's answer and that of the pages are told
-abbrev pub entryStatus : Entry → Status
-entryStatus Entry.Accepted = Accepted
-entryStatus Entry.OutOfRange = OutOfRange
-entryStatus Entry.Taken = Clash
-
-abbrev pub namingStatus : Naming → Status
-namingStatus Naming.Done = Accepted
-namingStatus Naming.OutOfRange = OutOfRange
-namingStatus Naming.Taken = Clash
+abbrev pub enteredStatus : Entered → Status
+enteredStatus Entered.Accepted = Accepted
+enteredStatus Entered.OutOfRange = OutOfRange
+enteredStatus Entered.Taken = Clash
 
 abbrev pub isOutside : Status → Bool
 isOutside Accepted = false
@@ -117,12 +110,12 @@ attempted s was told after = ruled (late s) (isOutside told) (isClash told) was 
 
 unfoldable pub entering : Setup → List ℕ → ℕ → ℕ → ℕ → ℕ → List ℕ × Reply
 entering s t first last kind number =
-    attempted s t (entryStatus (entered t first last kind number .0)) (entered t first last kind number .1)
+    attempted s t (enteredStatus (entered t first last kind number .0)) (entered t first last kind number .1)
 
 -- the owners and the named pages
 unfoldable pub namingIn : Setup → List ℕ → List ℕ → ℕ → ℕ → ℕ → (List ℕ × List ℕ) × Reply
 namingIn s owners named first count to =
-    attempted s (owners, named) (namingStatus (naming owners named (s .site .window .pages) first count to .0)) (naming owners named (s .site .window .pages) first count to .1)
+    attempted s (owners, named) (enteredStatus (naming owners named (s .site .window .pages) first count to .0)) (naming owners named (s .site .window .pages) first count to .1)
 
 -- ---- 20: a call on a core that is ON; set-up has then ended
 abbrev pub over : Setup → Setup

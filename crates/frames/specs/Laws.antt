@@ -8,7 +8,7 @@ use borrow.Author.Tests.{le-leb, lt-leb}
 use Rattle.rules.specs.Choice.{picked, passed, pick-yes, pick-no, either, left-false, right-false, first-or, not-true, not-false}
 use Rattle.rules.specs.Tests.{stops, goes, ends}
 use Rattle.ledger.specs.Ledger.{entered, entered-by}
-use Rattle.ledger.specs.declared.Entry.{Entry}
+use Rattle.rules.specs.declared.Entered.{Entered}
 use Rattle.registers.specs.Registers.{shownOf}
 use Rattle.registers.specs.declared.Shown.{Shown}
 use Rattle.cores.specs.Power.{isOn, isPending}
@@ -17,7 +17,6 @@ use Rattle.cores.specs.declared.Power.{Power}
 use Rattle.cores.specs.declared.Turn.{Turn}
 use Rattle.pages.specs.Window.{acceptable}
 use Rattle.pages.specs.Naming.{naming, naming-by, Outcome}
-use Rattle.pages.specs.declared.Naming.{Naming}
 use Rattle.judging.specs.Names.{normal}
 use Rattle.calls.specs.Step.{State, state, called, Seat, seat, arrivedIn}
 use Rattle.calls.specs.declared.Site.{Site}
@@ -29,7 +28,7 @@ use Rattle.lines.specs.declared.Frame.the-variants as Frame
 use Rattle.frames.specs.declared.Setup.{Setup}
 use Rattle.frames.specs.declared.Reply.{Reply}
 use Rattle.frames.specs.declared.Reply.the-variants.{Told, Called}
-use Rattle.frames.specs.Frames.{machine, siteOf, ruled, fixed, fits, sited, late, entryStatus, namingStatus, attempted, entering, namingIn, over, shownOn, shownIn, performed, calling, arriving, framed}
+use Rattle.frames.specs.Frames.{machine, siteOf, ruled, fixed, fits, sited, late, enteredStatus, attempted, entering, namingIn, over, shownOn, shownIn, performed, calling, arriving, framed}
 
 -- ---- the table of statuses, row by row
 module _ {S : Type 0} (misplaced outside clash : Bool) (s : S) (done r : S × Reply) where
@@ -118,14 +117,14 @@ module _ (s : Setup) (isLate : Bool) (is : isLate ≡ late s) where
     unfolding entering
     enters-late e = attempt-late s t _ _ (sym is ∙ e)
 
-    told-entry : late s ≡ false → (o : Entry × List ℕ) → o ≡ entered t first last kind number → (o .1, Told (entryStatus (o .0))) ≡ entering s t first last kind number
+    told-entry : late s ≡ false → (o : Entered × List ℕ) → o ≡ entered t first last kind number → (o .1, Told (enteredStatus (o .0))) ≡ entering s t first last kind number
     unfolding entering
     told-entry n o h =
         rw h (entered-by t first last kind number
-        (λ (q : Entry × List ℕ). (q .1, Told (entryStatus (q .0))) ≡ attempted s t (entryStatus (q .0)) (q .1))
+        (λ (q : Entered × List ℕ). (q .1, Told (enteredStatus (q .0))) ≡ attempted s t (enteredStatus (q .0)) (q .1))
         (λ m. attempt-outside s t t n) (λ r f. attempt-clash s t t n) (λ r f. attempt-done s t _ n))
 
-    pub enters : (e : Entry) (u : List ℕ) (told : Status) → isLate ≡ false → (e, u) ≡ entered t first last kind number → told ≡ entryStatus e
+    pub enters : (e : Entered) (u : List ℕ) (told : Status) → isLate ≡ false → (e, u) ≡ entered t first last kind number → told ≡ enteredStatus e
         → (u, Told told) ≡ entering s t first last kind number
     enters e u told l h k = rw k (told-entry (sym is ∙ l) (e, u) h)
 
@@ -134,14 +133,14 @@ module _ (s : Setup) (isLate : Bool) (is : isLate ≡ late s) where
     unfolding namingIn
     names-late e = attempt-late s (o, n) _ _ (sym is ∙ e)
 
-    told-naming : late s ≡ false → (q : Outcome) → q ≡ naming o n (s .site .window .pages) first count to → (q .1, Told (namingStatus (q .0))) ≡ namingIn s o n first count to
+    told-naming : late s ≡ false → (q : Outcome) → q ≡ naming o n (s .site .window .pages) first count to → (q .1, Told (enteredStatus (q .0))) ≡ namingIn s o n first count to
     unfolding namingIn
     told-naming d q h =
         rw h (naming-by o n (s .site .window .pages) first count to
-        (λ (q : Outcome). (q .1, Told (namingStatus (q .0))) ≡ attempted s (o, n) (namingStatus (q .0)) (q .1))
+        (λ (q : Outcome). (q .1, Told (enteredStatus (q .0))) ≡ attempted s (o, n) (enteredStatus (q .0)) (q .1))
         (λ m. attempt-outside s (o, n) (o, n) d) (λ r f. attempt-clash s (o, n) (o, n) d) (λ r f. attempt-done s (o, n) _ d))
 
-    pub names : (a : Naming) (o′ n′ : List ℕ) (told : Status) → isLate ≡ false → (a, (o′, n′)) ≡ naming o n (s .site .window .pages) first count to → told ≡ namingStatus a
+    pub names : (a : Entered) (o′ n′ : List ℕ) (told : Status) → isLate ≡ false → (a, (o′, n′)) ≡ naming o n (s .site .window .pages) first count to → told ≡ enteredStatus a
         → ((o′, n′), Told told) ≡ namingIn s o n first count to
     names a o′ n′ told l h k = rw k (told-naming (sym is ∙ l) (a, (o′, n′)) h)
 

@@ -7,14 +7,12 @@ use native.Mathlib.Omega.{arith}
 use borrow.Author.Tests.{leb-false, not-false}
 use Rattle.rules.specs.Choice.{either, chosen, not-first, not-second, yes-or-no}
 use Rattle.ledger.specs.Ledger.{entered}
-use Rattle.ledger.specs.declared.Entry.{Entry}
-use Rattle.ledger.specs.declared.Entry.the-variants as Entry
+use Rattle.rules.specs.declared.Entered.{Entered}
+use Rattle.rules.specs.declared.Entered.the-variants as Entered
 use Rattle.registers.specs.declared.Shown.{Shown}
 use Rattle.cores.specs.Power.{isOn, isPending}
 use Rattle.cores.specs.Cores.{power}
 use Rattle.pages.specs.Naming.{naming}
-use Rattle.pages.specs.declared.Naming.{Naming}
-use Rattle.pages.specs.declared.Naming.the-variants as Naming
 use Rattle.calls.specs.Step.{State, called, applied, Seat, arrivedIn, arrives}
 use Rattle.lines.specs.declared.Status.{Status}
 use Rattle.lines.specs.declared.Status.the-variants.{Accepted, Misplaced, OutOfRange, Clash}
@@ -23,7 +21,7 @@ use Rattle.lines.specs.declared.Frame.the-variants as Frame
 use Rattle.frames.specs.declared.Setup.{Setup}
 use Rattle.frames.specs.declared.Reply.{Reply}
 use Rattle.frames.specs.declared.Reply.the-variants.{Told, Called}
-use Rattle.frames.specs.Frames.{Machine, stateOf, seatOf, siteOf, ruled, fixed, fits, sited, late, entryStatus, namingStatus, isOutside, isClash, attempted, entering, namingIn, shownOn, performed, calling, arriving, withSetup, withLedger, withPages, withState, withSeat, framed}
+use Rattle.frames.specs.Frames.{Machine, stateOf, seatOf, siteOf, ruled, fixed, fits, sited, late, enteredStatus, isOutside, isClash, attempted, entering, namingIn, shownOn, performed, calling, arriving, withSetup, withLedger, withPages, withState, withSeat, framed}
 use Rattle.frames.specs.Laws.{ruled-misplaced, ruled-outside, ruled-clash, ruled-done}
 
 -- ---- what the table of statuses makes of a frame, by its rows
@@ -45,15 +43,10 @@ module _ (s : Setup) where
   unfolding late
   in-time e = (not-false (s .ready) (not-first (not (s .ready)) (s .ended) e), not-second (not (s .ready)) (s .ended) e)
 
-entry-accepted : (e : Entry) → isOutside (entryStatus e) ≡ false → isClash (entryStatus e) ≡ false → e ≡ Entry.Accepted
-entry-accepted Entry.Accepted a b = refl
-entry-accepted Entry.OutOfRange a b = absurd (yes-or-no true refl a)
-entry-accepted Entry.Taken a b = absurd (yes-or-no true refl b)
-
-naming-accepted : (n : Naming) → isOutside (namingStatus n) ≡ false → isClash (namingStatus n) ≡ false → n ≡ Naming.Done
-naming-accepted Naming.Done a b = refl
-naming-accepted Naming.OutOfRange a b = absurd (yes-or-no true refl a)
-naming-accepted Naming.Taken a b = absurd (yes-or-no true refl b)
+entered-accepted : (e : Entered) → isOutside (enteredStatus e) ≡ false → isClash (enteredStatus e) ≡ false → e ≡ Entered.Accepted
+entered-accepted Entered.Accepted a b = refl
+entered-accepted Entered.OutOfRange a b = absurd (yes-or-no true refl a)
+entered-accepted Entered.Taken a b = absurd (yes-or-no true refl b)
 
 -- ---- a frame by its outcomes: a case for a line that is no frame, one for all refusals, and one for each kind that is accepted, with what it has met
 module _ (m : Machine) (xs : List ℕ) (P : Frame → Machine × Reply → Type 0)
@@ -61,9 +54,9 @@ module _ (m : Machine) (xs : List ℕ) (P : Frame → Machine × Reply → Type 
     (refused : (f : Frame) (why : Status) → (why ≡ Accepted → ⊥) → P f (m, Told why))
     (site : (base pages cores : ℕ) → m .setup .ready ≡ false → fits (siteOf base pages cores) ≡ true
     → P (Frame.Site base pages cores) (withSetup m (fixed (m .setup) (siteOf base pages cores), Told Accepted)))
-    (entry : (first last kind number : ℕ) → m .setup .ready ≡ true → m .setup .ended ≡ false → entered (m .ledger) first last kind number .0 ≡ Entry.Accepted
+    (entry : (first last kind number : ℕ) → m .setup .ready ≡ true → m .setup .ended ≡ false → entered (m .ledger) first last kind number .0 ≡ Entered.Accepted
     → P (Frame.Entry first last kind number) (withLedger m (entered (m .ledger) first last kind number .1, Told Accepted)))
-    (name : (first count to : ℕ) → m .setup .ready ≡ true → m .setup .ended ≡ false → naming (m .owners) (m .named) (m .setup .site .window .pages) first count to .0 ≡ Naming.Done
+    (name : (first count to : ℕ) → m .setup .ready ≡ true → m .setup .ended ≡ false → naming (m .owners) (m .named) (m .setup .site .window .pages) first count to .0 ≡ Entered.Accepted
     → P (Frame.Name first count to) (withPages m (naming (m .owners) (m .named) (m .setup .site .window .pages) first count to .1, Told Accepted)))
     (call : (core : ℕ) → m .setup .ready ≡ true → core < m .setup .site .cores → isOn (power (m .powers) core) ≡ true
     → P (Frame.Call core) (withState m (performed (m .setup) (stateOf m) core xs)))
@@ -77,11 +70,11 @@ module _ (m : Machine) (xs : List ℕ) (P : Frame → Machine × Reply → Type 
   framed-by (Frame.Entry first last kind number) =
       ruled-by (λ (o : List ℕ × Reply). P (Frame.Entry first last kind number) (withLedger m o)) _ _ _ _ _
       (refused (Frame.Entry first last kind number))
-      (λ a b c. entry first last kind number (in-time (m .setup) a .0) (in-time (m .setup) a .1) (entry-accepted _ b c))
+      (λ a b c. entry first last kind number (in-time (m .setup) a .0) (in-time (m .setup) a .1) (entered-accepted _ b c))
   framed-by (Frame.Name first count to) =
       ruled-by (λ (o : (List ℕ × List ℕ) × Reply). P (Frame.Name first count to) (withPages m o)) _ _ _ _ _
       (refused (Frame.Name first count to))
-      (λ a b c. name first count to (in-time (m .setup) a .0) (in-time (m .setup) a .1) (naming-accepted _ b c))
+      (λ a b c. name first count to (in-time (m .setup) a .0) (in-time (m .setup) a .1) (entered-accepted _ b c))
   framed-by (Frame.Call core) =
       ruled-by (λ (o : (Setup × State) × Reply). P (Frame.Call core) (withState m o)) _ _ _ _ _
       (refused (Frame.Call core)) (λ a b c. call core (not-false _ a) (leb-false _ _ b) (not-false _ c))

@@ -1,21 +1,20 @@
 // What a frame does: set-up, a call, an arrival, or nothing where it is refused.
 ghost use mathlib.Core.Path.{_≡_};
 ghost use Rattle.calls.specs.Step.{state, seat};
-ghost use Rattle.frames.specs.Frames.{machine, unset, fits, fixed, sited, late, entryStatus, namingStatus, entering, namingIn, over, shownOn, performed, calling, arriving, framed};
+ghost use Rattle.frames.specs.Frames.{machine, unset, fits, fixed, sited, late, enteredStatus, entering, namingIn, over, shownOn, performed, calling, arriving, framed};
 use calls::Site;
 use cores::Powers;
 use cores::Turns;
-use ledger::Entry;
 use ledger::Ledger;
 use lines::Frame;
 use lines::Status;
 use mapping::Lists;
 use pages::Named;
-use pages::Naming;
 use pages::Owners;
 use pages::Window;
 use registers::Saved;
 use registers::Shown;
+use rules::Entered;
 
 // How far set-up has come: whether a site was accepted, which, and whether a call has ended set-up.
 pub struct Setup {
@@ -107,23 +106,13 @@ fn is_late(setup: Setup) -> bool
     true
 }
 
-fn entry_status(e: Entry) -> Status
-    ensures { λ r. ⌜ r ≡ entryStatus e ⌝ }
+fn entered_status(e: Entered) -> Status
+    ensures { λ r. ⌜ r ≡ enteredStatus e ⌝ }
 {
     match e {
-        Entry::Accepted => Status::Accepted,
-        Entry::OutOfRange => Status::OutOfRange,
-        Entry::Taken => Status::Clash,
-    }
-}
-
-fn naming_status(n: Naming) -> Status
-    ensures { λ r. ⌜ r ≡ namingStatus n ⌝ }
-{
-    match n {
-        Naming::Done => Status::Accepted,
-        Naming::OutOfRange => Status::OutOfRange,
-        Naming::Taken => Status::Clash,
+        Entered::Accepted => Status::Accepted,
+        Entered::OutOfRange => Status::OutOfRange,
+        Entered::Taken => Status::Clash,
     }
 }
 
@@ -142,7 +131,7 @@ pub fn enter_pairs(
         return Reply::Told(Status::Misplaced);
     }
     let e = ledger::enter(book, first, last, kind, number);
-    Reply::Told(entry_status(e))
+    Reply::Told(entered_status(e))
 }
 
 // Frame 12: pages are named, and given to their owner.
@@ -161,7 +150,7 @@ pub fn name_pages(
     }
     let window = setup.site.window;
     let n = pages::name_run(owners, named, window.pages, first, count, to);
-    Reply::Told(naming_status(n))
+    Reply::Told(entered_status(n))
 }
 
 // What is shown of a core after its call.

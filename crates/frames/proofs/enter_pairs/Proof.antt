@@ -13,12 +13,12 @@ returns c = search attempts
 enter-requires : tie.Need-enter-requires
 enter-requires c κs = search needs
 
-entry-status-requires : tie.Need-entry-status-requires
-entry-status-requires c κs = search needs
+entered-status-requires : tie.Need-entered-status-requires
+entered-status-requires c κs = search needs
 
 returns-2 : tie.Need-returns-2
 returns-2 c = search attempts
 
 pub enter-pairs-spec : {M : Type 1} → statement M
 enter-pairs-spec =
-    tie.close (tie.spec is-late-requires returns enter-requires entry-status-requires returns-2)
+    tie.close (tie.spec is-late-requires returns enter-requires entered-status-requires returns-2)

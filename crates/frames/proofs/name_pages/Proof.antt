@@ -13,8 +13,8 @@ returns c = search attempts
 name-run-requires : tie.Need-name-run-requires
 name-run-requires c κs = search needs
 
-naming-status-requires : tie.Need-naming-status-requires
-naming-status-requires c κs = search needs
+entered-status-requires : tie.Need-entered-status-requires
+entered-status-requires c κs = search needs
 
 returns-2 : tie.Need-returns-2
 returns-2 c = search attempts
@@ -22,4 +22,4 @@ returns-2 c = search attempts
 pub name-pages-spec : {M : Type 1} → statement M
 name-pages-spec =
     tie.close
-    (tie.spec is-late-requires returns name-run-requires naming-status-requires returns-2)
+    (tie.spec is-late-requires returns name-run-requires entered-status-requires returns-2)
