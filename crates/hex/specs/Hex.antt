@@ -98,13 +98,6 @@ module _ (b : ℕ) where
       either (ltb b 103) (λ h. let m : b < 103 = ltb-true _ _ h in let k = digit-high (ltb-false _ _ g) m in omega arith) (λ h.
       let k = digit-above (ltb-false _ _ h) in omega arith))))
 
-module _ (d : ℕ) (h : d < 16) where
-  pub sign-most : signOf d < 103
-  sign-most =
-      either (ltb d 10)
-      (λ e. let g : d < 10 = ltb-true _ _ e in let k = sign-low d g in omega arith)
-      (λ e. let g : 10 ≤ d = ltb-false _ _ e in let k = sign-high d g in omega arith)
-
 pub length-hex : (n x : ℕ) → length (inHex n x) ≡ n
 unfolding inHex
 length-hex zero x = refl

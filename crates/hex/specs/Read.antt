@@ -1,5 +1,5 @@
 -- Signs read one by one: whether all of a line are digits, a byte, and a number.
-use mathlib.Core.Path.{_≡_, refl, sym, ap, _∙_}
+use mathlib.Core.Path.{_≡_, refl, ap, _∙_}
 use mathlib.Core.Bool.{Bool, true, false, _&&_}
 use mathlib.Core.List.{List}
 use Prim.Native.Nat.{ℕ, zero, suc, _+_, _-_, _*_, _%_, _^_, _≤_, _<_}
@@ -8,7 +8,6 @@ use native.Mathlib.Numerals.{add-one}
 use native.Mathlib.Nat.{pow-suc, pow-le-pow-right, add-zero}
 use mir.Syntax.{w64}
 use mir.Val.{Fits}
-use lib.Dec.{ltb}
 use lib.ListN.{length, getD, List·getD-eq-default}
 use borrow.Author.Tests.{lt-ltb, le-ltb}
 use Rattle.rules.specs.Choice.{pick, picked, passed, by, left-false, right-false, both-true}
@@ -89,6 +88,15 @@ module _ (l : List ℕ) (k high : ℕ) (a : high ≡ digitOf (getD l (k * 2) 0))
         (rw add-zero (ap Is (omega arith)))
 
 pub ruleset bytes = (byte-first, byte-second, byte-is)
+
+-- what was read was two digits
+pub byte-was : (l : List ℕ) (k x : ℕ) → Is x ≡ byteOf l k → (all (digitAt l) (k * 2) 2 ≡ true) × (x ≡ number l k 1)
+unfolding byteOf pick
+byte-was l k x e =
+    by (λ (b : Bool). all (digitAt l) (k * 2) 2 ≡ b → Is x ≡ pick b (Is (number l k 1)) NoDigits → (all (digitAt l) (k * 2) 2 ≡ true) × (x ≡ number l k 1)) (all (digitAt l) (k * 2) 2)
+    (λ y h g. (h, cc))
+    (λ y h g. absurd (let z : _≡_ {A = ℕ} 0 1 = cc in omega arith))
+    refl e
 
 -- ---- a number, sign by sign
 value-small : (l : List ℕ) (at n : ℕ) → value l at n < 16 ^ n

@@ -127,3 +127,22 @@ module _ (l xs : List ℕ) (k : ℕ) where
         picked _ _ _ _ (are-digits l (k * 2) most ds d h) (rw same)
 
 pub ruleset eights = (eight-short, eight-none, eight-read)
+
+-- ---- what was read
+module _ (l xs ys : List ℕ) (k : ℕ) where
+  pub eight-was : (true, ys) ≡ eight l k xs → (all (digitAt l) (k * 2) 128 ≡ true) × (ys ≡ numbers l k 8)
+  unfolding eight pick
+  eight-was e =
+      by (λ (b : Bool). all (digitAt l) (k * 2) 128 ≡ b → _≡_ {A = Bool × List ℕ} (true, ys) (pick b (true, numbers l k 8) (false, xs)) → (all (digitAt l) (k * 2) 128 ≡ true) × (ys ≡ numbers l k 8))
+      (all (digitAt l) (k * 2) 128)
+      (λ y h g. (h, ap (λ (p : Bool × List ℕ). p .1) g))
+      (λ y h g. absurd (let z : true ≡ false = ap (λ (p : Bool × List ℕ). p .0) g in let w : _≡_ {A = ℕ} 0 1 = cc in omega arith))
+      refl e
+
+  pub eight-left : (false, ys) ≡ eight l k xs → ys ≡ xs
+  unfolding eight pick
+  eight-left e =
+      by (λ (b : Bool). _≡_ {A = Bool × List ℕ} (false, ys) (pick b (true, numbers l k 8) (false, xs)) → ys ≡ xs) (all (digitAt l) (k * 2) 128)
+      (λ y g. absurd (let z : false ≡ true = ap (λ (p : Bool × List ℕ). p .0) g in let w : _≡_ {A = ℕ} 0 1 = cc in omega arith))
+      (λ y g. ap (λ (p : Bool × List ℕ). p .1) g)
+      e

@@ -96,8 +96,6 @@ byte-fits o p at x h e = put-fits o at (inHex 2 x) 2 (length-hex 2 x) p h (e ∙
 pub byte-not : (o : List ℕ) (at x : ℕ) → length o < at + 2 → (at, o) ≡ put o at (inHex 2 x)
 byte-not o at x h = put-not o at (inHex 2 x) 2 (length-hex 2 x) h
 
-pub ruleset byte-outcomes = (byte-fits, byte-not)
-
 -- ---- bytes put one behind the other
 bytes-next : (bs : List ℕ) (i n : ℕ) → bytesText bs i (suc n) ≡ byteText (getD bs i 0) ++ bytesText bs (i + 1) n
 unfolding bytesText
@@ -152,5 +150,3 @@ module _ (o : List ℕ) (at x0 x1 x2 x3 : ℕ) where
 
   pub four-not : length o < at + 64 → (at, o) ≡ put o at (fourText x0 x1 x2 x3)
   four-not h = put-not o at (fourText x0 x1 x2 x3) 64 (length-four x0 x1 x2 x3) h
-
-pub ruleset four-outcomes = (four-fit, four-not)
