@@ -8,6 +8,7 @@ use borrow.Author.Tests.{lt-ltb, le-ltb, ltb-true, ltb-false}
 use Rattle.rules.specs.Choice.{pick, picked, passed, by, either}
 use Rattle.hex.specs.Hex.{digitOf, isDigit, valueOf, digit-below, digit-low, digit-between, digit-high, digit-above}
 
+-- as few tests as tell a digit from all else
 unfoldable pub markOf : ℕ → ℕ
 markOf b = pick (ltb b 58) ((b + 208) % 256) (pick (ltb b 97) 255 (b - 87))
 

@@ -38,6 +38,7 @@ struct Marks {
     each: [u8; 128],
 }
 
+// Those of the signs from a place on.
 fn marks_of(line: &[u8], at: usize) -> Marks
     requires { ⌜ at + 128 ≤ length (now line) ⌝ }
     ensures { λ r. ⌜ Digits (now (line .entry)) at (r .most) (r .each) ⌝ }
@@ -61,6 +62,7 @@ fn pair(a: u8, b: u8) -> u16
     a as u16 + b as u16 * 256
 }
 
+// 128 digits as pairs.
 fn pairs(ds: &[u8; 128]) -> [u16; 64]
     ensures { λ r. ⌜ Row (pairAt (now (ds .entry))) 64 r ⌝ }
 {
@@ -80,6 +82,7 @@ fn pack(w: u16) -> u8
     (w % 16 * 16 + w / 256 % 16) as u8
 }
 
+// The bytes of 64 pairs.
 fn bytes(ws: &[u16; 64]) -> [u8; 64]
     ensures { λ r. ⌜ Row (byteAt (now (ws .entry))) 64 r ⌝ }
 {
@@ -122,6 +125,7 @@ fn low_first(bs: &[u8], at: usize) -> u64
     low_four(bs, at) + low_four(bs, at + 4) * 0x100000000
 }
 
+// The numbers of 64 bytes, the highest byte of each first.
 fn words(bs: &[u8; 64]) -> [u64; 8]
     ensures { λ r. ⌜ Row (wordAt (now (bs .entry))) 8 r ⌝ }
 {

@@ -18,7 +18,7 @@ use Rattle.lines.specs.declared.Look.the-variants as Look
 use Rattle.hex.specs.declared.Byte.{Byte}
 use Rattle.hex.specs.declared.Byte.the-variants.{Is}
 
--- what it was taken for is right; where it is no call the numbers are left
+-- a call is what is parsed; all else leaves the numbers, and is searched for its end
 abbrev pub Seen : List ℕ → List ℕ → Look → List ℕ → Type 0
 Seen l xs (Look.Call core) ys = (Call core, ys) ≡ parsed l xs
 Seen l xs Look.NoCall ys = ys ≡ xs

@@ -17,13 +17,13 @@ pub enum Next {
     Unfinished,
 }
 
-// A line of 132 signs, looked at without a search for its end: a call on a core, or none.
+// What 132 signs are before a newline, with no search for an earlier one: a call on a core, or none.
 enum Look {
     Call(u64),
     NoCall,
 }
 
-// A line of 132 signs: a call and its numbers, or that it is none, and the numbers are left.
+// A call and its numbers, or none, and the numbers are left.
 fn quick(line: &[u8], xs: &mut [u64; 8]) -> Look
     requires { ⌜ length (now line) ≡ 132 ⌝ }
     ensures { λ r. ⌜ Seen (now (line .entry)) (now (xs .entry)) r (now (xs .exit)) ⌝ }

@@ -13,6 +13,7 @@ const STATUS: usize = 5;
 
 const CALL: usize = 71;
 
+// The paper's byte of a status.
 fn byte_of(s: Status) -> u64
     ensures { λ r. ⌜ r ≡ statusByte s ⌝ }
 {
@@ -37,6 +38,7 @@ fn put_end(out: &mut [u8], at: usize) -> usize
     at
 }
 
+// What stands before the numbers of a call's answer.
 fn put_head(out: &mut [u8], at: usize, core: u64, world: u64) -> usize
     requires { ⌜ at + 6 ≤ length (now out) ⌝ }
     ensures { λ r. ⌜ (r, now (out .exit)) ≡ put (now (out .entry)) at (headText core world) ⌝ }
