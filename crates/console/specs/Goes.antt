@@ -6,7 +6,7 @@ use native.Mathlib.Omega.{arith}
 use lib.ListN.{take, drop}
 use Rattle.lines.specs.Lines.{part}
 use Rattle.lines.specs.Input.{readings}
-use Rattle.lines.specs.declared.Frame.{Frame}
+use Rattle.parsing.specs.declared.Frame.{Frame}
 use Rattle.frames.specs.Frames.{Machine}
 use Rattle.stream.specs.Run.{printed, answers, reached, leftBy, Feeds}
 

@@ -11,7 +11,7 @@ use lib.Seq.{length-take-le, getD-at, getD-drop, take-suc-set}
 use Rattle.rules.specs.Choice.{either}
 use Rattle.lines.specs.Lines.{part, Unbroken}
 use Rattle.lines.specs.Input.{reading, readings, readings-closed, readings-last}
-use Rattle.lines.specs.declared.Frame.{Frame}
+use Rattle.parsing.specs.declared.Frame.{Frame}
 use Rattle.frames.specs.Frames.{Machine, framed}
 use Rattle.stream.specs.Run.{printed, answers, reached, leftBy, left-none, textOf, text-short, Feeds, Through}
 use Rattle.console.specs.Goes.{front}

@@ -8,7 +8,7 @@ use lib.ListN.{length, take, drop, length-drop, take-append-drop}
 use lib.Seq.{drop-drop, length-take-le, take-all, take-take, take-add, drop-at}
 use Rattle.rules.specs.Choice.{yes-or-no}
 use Rattle.lines.specs.Lines.{part, Unbroken}
-use Rattle.lines.specs.Carry.{carried, carry-kept, carry-line, carry-readings}
+use Rattle.lines.specs.Front.{fronted, front-kept, front-line, front-readings}
 use Rattle.frames.specs.Frames.{Machine, first}
 use Rattle.frames.specs.declared.Setup.{Setup}
 use Rattle.stream.specs.Run.{leftBy, Feeds, Through}
@@ -88,7 +88,7 @@ drop-take s from to g h =
 -- what the lines that were answered leave is carried to the front
 pub waits :
     (s : List ℕ) (n used : ℕ) {m m′ : Machine} (written : Bool) → written ≡ true → n ≤ length s → Drains (part s 0 n) m m′ used written →
-    (kept : ℕ) (s′ : List ℕ) → (kept, s′) ≡ carried s used n → Waits (take n s) m m′ s′ kept
+    (kept : ℕ) (s′ : List ℕ) → (kept, s′) ≡ fronted s used n → Waits (take n s) m m′ s′ kept
 waits s n used {m} {m′} written y h d₀ kept s′ e =
     let d : Drains (take n s) m m′ used written = rw (front s n) at d₀ in
     let l : length (take n s) ≡ n = length-take-le n s h in
@@ -97,9 +97,9 @@ waits s n used {m} {m′} written y h d₀ kept s′ e =
     let u : Unbroken (part s used n) = rw is at (d .rest y) in
     let go : Goes m (take n s) m′ (part s used n) = rw is at (d .done .goes) in
     record {
-      goes = goes-same (carry-readings s used n g h s′ kept e u) go;
-      few = carry-kept s used n g h s′ kept e .0;
-      line = carry-line s used n g h s′ kept e u;
+      goes = goes-same (front-readings s used n g h s′ kept e u) go;
+      few = front-kept s used n g h s′ kept e .0;
+      line = front-line s used n g h s′ kept e u;
     }
 
 -- ---- after a read

@@ -132,7 +132,7 @@ fn go_on(
     let used = d.used;
     let next = d.setup;
     if d.written {
-        let kept = lines::carry(buf, used, n);
+        let kept = lines::to_front(buf, used, n);
         return Stand {
             setup: next,
             kept,

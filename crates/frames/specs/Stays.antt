@@ -16,10 +16,10 @@ use Rattle.pages.specs.Naming.{naming}
 use Rattle.pages.specs.declared.Naming.{Naming}
 use Rattle.pages.specs.declared.Naming.the-variants as Naming
 use Rattle.calls.specs.Step.{State, called, applied, Seat, arrivedIn, arrives}
-use Rattle.lines.specs.declared.Status.{Status}
-use Rattle.lines.specs.declared.Status.the-variants.{Accepted, Misplaced, OutOfRange, Clash}
-use Rattle.lines.specs.declared.Frame.{Frame}
-use Rattle.lines.specs.declared.Frame.the-variants as Frame
+use Rattle.parsing.specs.declared.Status.{Status}
+use Rattle.parsing.specs.declared.Status.the-variants.{Accepted, Misplaced, OutOfRange, Clash}
+use Rattle.parsing.specs.declared.Frame.{Frame}
+use Rattle.parsing.specs.declared.Frame.the-variants as Frame
 use Rattle.frames.specs.declared.Setup.{Setup}
 use Rattle.frames.specs.declared.Reply.{Reply}
 use Rattle.frames.specs.declared.Reply.the-variants.{Told, Called}

@@ -7,13 +7,13 @@ use cores::Powers;
 use cores::Turns;
 use ledger::Entry;
 use ledger::Ledger;
-use lines::Frame;
-use lines::Status;
 use mapping::Lists;
 use pages::Named;
 use pages::Naming;
 use pages::Owners;
 use pages::Window;
+use parsing::Frame;
+use parsing::Status;
 use registers::Saved;
 use registers::Shown;
 

@@ -20,10 +20,10 @@ use Rattle.judging.specs.Grounds.{Calls, Takes}
 use Rattle.judging.specs.Asked.{key, judged-found}
 use Rattle.judging.specs.declared.Judged.{Judged}
 use Rattle.calls.specs.Step.{State, sight, callerOf, judgedIn, called, applied}
-use Rattle.lines.specs.declared.Status.{Status}
-use Rattle.lines.specs.declared.Status.the-variants.{Accepted, NoHex, Unknown, Misplaced, OutOfRange, Clash}
-use Rattle.lines.specs.declared.Frame.{Frame}
-use Rattle.lines.specs.declared.Frame.the-variants as Frame
+use Rattle.parsing.specs.declared.Status.{Status}
+use Rattle.parsing.specs.declared.Status.the-variants.{Accepted, NoHex, Unknown, Misplaced, OutOfRange, Clash}
+use Rattle.parsing.specs.declared.Frame.{Frame}
+use Rattle.parsing.specs.declared.Frame.the-variants as Frame
 use Rattle.frames.specs.Frames.{Machine, first, framed, stateOf, performed}
 use Rattle.frames.specs.Stays.{framed-by}
 use Rattle.frames.specs.declared.Reply.{Reply}

@@ -23,7 +23,7 @@ use Rattle.calls.specs.Step.{State, state, called, applied, arrivedIn}
 use Rattle.calls.specs.Effects.{WholeTables}
 use Rattle.calls.specs.Kept.{Right, called-right, arrival-right, first-right}
 use Rattle.calls.specs.declared.Site.{Site}
-use Rattle.lines.specs.declared.Frame.{Frame}
+use Rattle.parsing.specs.declared.Frame.{Frame}
 use Rattle.frames.specs.Frames.{Machine, machine, first, unset, stateOf, seatOf, siteOf, fixed, fits, performed, withSetup, withPages, withState, withSeat}
 use Rattle.frames.specs.Stays.{framed-by, call-state, arrival-state}
 use Rattle.frames.specs.declared.Reply.{Reply}

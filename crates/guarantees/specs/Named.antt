@@ -6,8 +6,8 @@ use Rattle.pages.specs.Window.{runOf}
 use Rattle.pages.specs.Owners.{owner}
 use Rattle.pages.specs.declared.Place.the-variants.{Page}
 use Rattle.calls.specs.Step.{sight}
-use Rattle.lines.specs.declared.Status.the-variants.{Accepted}
-use Rattle.lines.specs.declared.Frame.the-variants as Frame
+use Rattle.parsing.specs.declared.Status.the-variants.{Accepted}
+use Rattle.parsing.specs.declared.Frame.the-variants as Frame
 use Rattle.frames.specs.Frames.{Machine, stateOf}
 use Rattle.frames.specs.declared.Reply.the-variants.{Told}
 use Rattle.judging.specs.Asked.{Granted}

@@ -4,9 +4,9 @@ use mathlib.Core.List.{List, [], _∷_, _++_}
 use Prim.Native.Nat.{ℕ}
 use lib.ListN.{length}
 use Rattle.rules.specs.Agree.{agree}
-use Rattle.lines.specs.declared.Status.{Status}
-use Rattle.lines.specs.declared.Frame.{Frame}
-use Rattle.lines.specs.declared.Frame.the-variants as Frame
+use Rattle.parsing.specs.declared.Status.{Status}
+use Rattle.parsing.specs.declared.Frame.{Frame}
+use Rattle.parsing.specs.declared.Frame.the-variants as Frame
 use Rattle.frames.specs.Frames.{Machine, first, framed}
 use Rattle.frames.specs.declared.Reply.{Reply}
 use Rattle.frames.specs.declared.Reply.the-variants.{Told}

@@ -29,10 +29,10 @@ use Rattle.judging.specs.declared.Deed.the-variants.{HandOver, Finish}
 use Rattle.rules.specs.Reasons.{minus}
 use Rattle.calls.specs.Step.{sight, callerOf, judgedIn, startNumbers}
 use Rattle.calls.specs.Effects.{deedIn, answerIn, resultsIn, Receives}
-use Rattle.lines.specs.declared.Status.{Status}
-use Rattle.lines.specs.declared.Status.the-variants.{Accepted}
-use Rattle.lines.specs.declared.Frame.{Frame}
-use Rattle.lines.specs.declared.Frame.the-variants as Frame
+use Rattle.parsing.specs.declared.Status.{Status}
+use Rattle.parsing.specs.declared.Status.the-variants.{Accepted}
+use Rattle.parsing.specs.declared.Frame.{Frame}
+use Rattle.parsing.specs.declared.Frame.the-variants as Frame
 use Rattle.text.specs.Text.{statusText, callText}
 use Rattle.frames.specs.Frames.{Machine, machine, first, stateOf, over, shownIn}
 use Rattle.frames.specs.declared.Reply.{Reply}

@@ -18,10 +18,10 @@ use Rattle.judging.specs.declared.Deed.the-variants.{Nothing, Move, Map, Unmap,
 use Rattle.calls.specs.Step.{State, sight, callerOf, called, arrivedIn, startNumbers}
 use Rattle.calls.specs.Effects.{after, deedIn, answerIn, Receives, refused, saved-spared, turn-handed, turn-finished, own-results, own-frame, own-past, hands, handed-numbers, handed-rest, finishes, finished-numbers, finished-rest, arrival-saved, arrived-numbers, arrived-power, arrived-turn}
 use Rattle.calls.specs.Kept.{Right}
-use Rattle.lines.specs.declared.Status.{Status}
-use Rattle.lines.specs.declared.Status.the-variants.{Accepted}
-use Rattle.lines.specs.declared.Frame.{Frame}
-use Rattle.lines.specs.declared.Frame.the-variants as Frame
+use Rattle.parsing.specs.declared.Status.{Status}
+use Rattle.parsing.specs.declared.Status.the-variants.{Accepted}
+use Rattle.parsing.specs.declared.Frame.{Frame}
+use Rattle.parsing.specs.declared.Frame.the-variants as Frame
 use Rattle.frames.specs.Frames.{Machine, framed, stateOf, seatOf, over, performed, withState, withSeat, shownIn}
 use Rattle.frames.specs.Stays.{framed-by, shown-not-told, refused-same, told-goes-on, call-ends}
 use Rattle.frames.specs.declared.Reply.{Reply}

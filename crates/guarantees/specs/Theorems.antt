@@ -14,11 +14,12 @@ use Rattle.ledger.specs.declared.Lookup.{Lookup}
 use Rattle.pages.specs.Owners.{unowned-owner}
 use Rattle.judging.specs.Judge.{calledBy, argsOf, found}
 use Rattle.calls.specs.Step.{sight, judgedIn}
-use Rattle.lines.specs.Frame.{numbers, parsed, parsed-call}
+use Rattle.hex.specs.Hex.{numbers}
+use Rattle.parsing.specs.Frame.{parsed, parsed-call}
 use Rattle.lines.specs.Lines.{linesOf}
 use Rattle.lines.specs.Input.{reading, readings}
-use Rattle.lines.specs.declared.Frame.{Frame}
-use Rattle.lines.specs.declared.Frame.the-variants as Frame
+use Rattle.parsing.specs.declared.Frame.{Frame}
+use Rattle.parsing.specs.declared.Frame.the-variants as Frame
 use Rattle.frames.specs.Frames.{Machine, first, stateOf}
 use Rattle.frames.specs.declared.Reply.{Reply}
 use Rattle.frames.specs.declared.Reply.the-variants.{Told, Called}

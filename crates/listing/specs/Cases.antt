@@ -6,8 +6,8 @@ use Prim.Native.String.{String}
 use lib.ListN.{replicate}
 use Rattle.rules.specs.Choice.{pick}
 use Rattle.rules.specs.Search.{all}
-use Rattle.lines.specs.Cases.{signs}
-use Rattle.lines.specs.Hex.{signOf}
+use Rattle.hex.specs.Signs.{signs}
+use Rattle.hex.specs.Hex.{signOf}
 use Rattle.entries.specs.Numbers.{two, four, eight}
 use Rattle.entries.specs.Table.{offset, size, flags}
 use Rattle.listing.specs.Identifiers.{run, idText}

@@ -14,8 +14,8 @@ use borrow.Author.Tests.{eq-eqb, ne-eqb, eqb-true, ltb-true, ltb-false}
 use Rattle.rules.specs.Choice.{pick, either, yes-or-no, both-true, left-true, right-true}
 use Rattle.rules.specs.Search.{all, all-at, all-if}
 use Rattle.rules.specs.Laid.{laid, then, laid-append, length-laid}
-use Rattle.lines.specs.Rows.{Filled}
-use Rattle.lines.specs.Hex.{digitOf, signOf, sign-low, sign-high, digit-below, digit-low, digit-between, digit-high, digit-above}
+use Rattle.hex.specs.Rows.{Filled}
+use Rattle.hex.specs.Hex.{digitOf, signOf, sign-low, sign-high, digit-below, digit-low, digit-between, digit-high, digit-above}
 
 -- ---- the text of an identifier
 -- the two digits of a byte

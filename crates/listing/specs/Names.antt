@@ -5,7 +5,7 @@ use Prim.Native.Nat.{ℕ}
 use Prim.Native.String.{String}
 use Rattle.rules.specs.Choice.{pick}
 use Rattle.rules.specs.Search.{all}
-use Rattle.lines.specs.Cases.{signs}
+use Rattle.hex.specs.Signs.{signs}
 use Rattle.listing.specs.Identifiers.{agree}
 
 -- identifiers and their names

@@ -12,7 +12,7 @@ use borrow.Author.Tests.{lt-ltb, le-ltb, eqb-true}
 use Rattle.rules.specs.Choice.{pick, pick-yes, pick-no, by}
 use Rattle.rules.specs.Search.{all, all-at, first}
 use Rattle.rules.specs.Laid.{laid}
-use Rattle.lines.specs.Cases.{signs}
+use Rattle.hex.specs.Signs.{signs}
 use Rattle.listing.specs.Identifiers.{agree}
 use Rattle.listing.specs.Names.{names, isText, nameAmong, nameText}
 use Rattle.listing.specs.Pieces.{Stands}

@@ -4,7 +4,7 @@ ghost use Prim.Native.Nat.{_+_, _*_, _≤_, _<_};
 ghost use lib.ListN.{length, getD};
 ghost use Rattle.rules.specs.Laid.{laid};
 ghost use Rattle.rules.specs.Search.{all};
-ghost use Rattle.lines.specs.Hex.{digitOf, signOf};
+ghost use Rattle.hex.specs.Hex.{digitOf, signOf};
 ghost use Rattle.listing.specs.Identifiers.{byteText, run, idText, agree, placeOf, byteOf, bytesOf, identified};
 use crate::pieces;
 

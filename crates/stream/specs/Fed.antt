@@ -8,10 +8,10 @@ use lib.Dec.{ltb}
 use lib.ListN.{length}
 use borrow.Author.Tests.{lt-ltb, le-ltb, ltb-true, ltb-false}
 use Rattle.rules.specs.Choice.{pick, chosen, pick-yes, pick-no, either}
-use Rattle.lines.specs.Frame.{isCall, parsed}
+use Rattle.parsing.specs.Frame.{isCall, parsed}
 use Rattle.lines.specs.Lines.{endOf, lineAt, lined, nextOf, end-from}
 use Rattle.lines.specs.Input.{reading-of, Found, next-found, next-unfinished, next-inside}
-use Rattle.lines.specs.declared.Frame.{Frame}
+use Rattle.parsing.specs.declared.Frame.{Frame}
 use Rattle.lines.specs.declared.Next.{Next}
 use Rattle.lines.specs.declared.Next.the-variants.{Line, Unfinished}
 use Rattle.rules.specs.Laid.{put}

@@ -5,7 +5,7 @@ use Prim.Native.Nat.{ℕ}
 use lib.ListN.{take, drop}
 use Rattle.lines.specs.Input.{readings}
 use Rattle.lines.specs.Parts.{complete, unfinished, both-parts, readings-parts}
-use Rattle.lines.specs.declared.Frame.{Frame}
+use Rattle.parsing.specs.declared.Frame.{Frame}
 use Rattle.frames.specs.Frames.{Machine, framed}
 use Rattle.stream.specs.Run.{textOf, answers, printed, reached, leftBy, Feeds}
 

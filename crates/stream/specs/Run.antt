@@ -7,13 +7,13 @@ use native.Mathlib.Omega.{arith}
 use lib.ListN.{length, take, drop}
 use Rattle.rules.specs.Choice.{pick, pick-yes, pick-no}
 use Rattle.registers.specs.declared.Shown.{Shown}
-use Rattle.lines.specs.Frame.{isCall}
+use Rattle.parsing.specs.Frame.{isCall}
 use Rattle.lines.specs.Lines.{nextOf, Unbroken, rest-unbroken, end-from}
 use Rattle.lines.specs.Input.{readings, readings-none, readings-next, next-inside, next-unfinished}
-use Rattle.lines.specs.declared.Frame.{Frame}
-use Rattle.lines.specs.declared.Frame.the-variants as Frame
+use Rattle.parsing.specs.declared.Frame.{Frame}
+use Rattle.parsing.specs.declared.Frame.the-variants as Frame
 use Rattle.lines.specs.declared.Next.{Next}
-use Rattle.lines.specs.declared.Status.{Status}
+use Rattle.parsing.specs.declared.Status.{Status}
 use Rattle.lines.specs.declared.Next.the-variants.{Line, Unfinished}
 use Rattle.rules.specs.Laid.{put, laid, put-fits, put-take, length-laid}
 use Rattle.text.specs.Text.{statusText, callText, length-status, length-call}

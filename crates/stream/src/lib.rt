@@ -9,11 +9,11 @@ use cores::Turns;
 use frames::Reply;
 use frames::Setup;
 use ledger::Ledger;
-use lines::Frame;
 use lines::Next;
 use mapping::Lists;
 use pages::Named;
 use pages::Owners;
+use parsing::Frame;
 use registers::Saved;
 
 // The longest answer, a call's.

@@ -1,4 +1,4 @@
--- What `drain` leaves has no newline, so what `carry` keeps of it is read as the whole is.
+-- What `drain` leaves has no newline, so what `to_front` keeps of it is read as the whole is.
 use borrow.Author.Needs.{needs}
 use mathlib.Core.Path.{refl}
 use Rattle.rules.specs.Choice.{yes-or-no}
@@ -18,8 +18,8 @@ part-drain-end c = search needs
 drain-requires : tie.Need-drain-requires
 drain-requires c κs = search needs
 
-carry-requires : tie.Need-carry-requires
-carry-requires c κs = search needs
+to-front-requires : tie.Need-to-front-requires
+to-front-requires c κs = search needs
 
 same-length : tie.Need-same-length
 same-length c = search needs
@@ -28,7 +28,7 @@ same-length-2 : tie.Need-same-length-2
 same-length-2 c = search needs
 
 returns : tie.Need-returns
-returns c y = waits (c .before .before .before .before .before .before .before .before .before .before .before .before .before .before .before .before .before .before .before .before .before .args .buf .now) (c .before .before .before .before .before .before .before .before .before .before .before .before .before .before .before .before .before .before .before .before .before .args .n) _ _ (search needs) (search needs) (c .before .before .before .before .before .before .before .before .drain .ensures) _ _ (c .before .before .carry .ensures)
+returns c y = waits (c .before .before .before .before .before .before .before .before .before .before .before .before .before .before .before .before .before .before .before .before .before .args .buf .now) (c .before .before .before .before .before .before .before .before .before .before .before .before .before .before .before .before .before .before .before .before .before .args .n) _ _ (search needs) (search needs) (c .before .before .before .before .before .before .before .before .drain .ensures) _ _ (c .before .before .to-front .ensures)
 
 same-length-3 : tie.Need-same-length-3
 same-length-3 c = search needs
@@ -47,7 +47,7 @@ go-on-spec =
     part-drain-start
     part-drain-end
     drain-requires
-    carry-requires
+    to-front-requires
     same-length
     same-length-2
     returns

@@ -1,6 +1,6 @@
 -- `identifiers::bytes_of` meets its promise, since each turn fills one place more by the rule.
 use Prim.Native.Nat.{_-_}
-use Rattle.lines.specs.Rows.{Filled, filling}
+use Rattle.hex.specs.Rows.{Filled, filling}
 use Rattle.listing.specs.Identifiers.{byteAt, byte-at, filled-bytes}
 use borrow.Author.Needs.{needs}
 use Rattle.listing.proofs.identifiers.bytes_of.Statement.{statement}

@@ -1,5 +1,5 @@
 -- `identifiers::sign` meets its promise, since digits below ten and the others have a run of signs each.
-use Rattle.lines.specs.Hex.{sign-low, sign-high}
+use Rattle.hex.specs.Hex.{sign-low, sign-high}
 use borrow.Author.Needs.{needs}
 use Rattle.listing.proofs.identifiers.sign.Statement.{statement}
 use Rattle.listing.proofs.identifiers.sign.Tie as tie
