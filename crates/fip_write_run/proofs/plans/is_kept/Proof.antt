@@ -2,8 +2,8 @@
 use Prim.Native.Nat.{_-_, _≤_}
 use lib.ListN.{length}
 use borrow.Author.Needs.{needs}
-use Rattle.packages_run.proofs.writes.is_kept.Statement.{statement}
-use Rattle.packages_run.proofs.writes.is_kept.Tie as tie
+use Rattle.fip_write_run.proofs.plans.is_kept.Statement.{statement}
+use Rattle.fip_write_run.proofs.plans.is_kept.Tie as tie
 
 abbrev Inv-loop : tie.InvT-loop
 Inv-loop out i₀ i = i ≤ length out
