@@ -26,7 +26,7 @@ fn ask(pack: &Pack, length: usize, n: u8) {
     let mut id = [0u8; 16];
     id[0] = n;
     if length <= bytes.len() {
-        io::print_hex(STDOUT_FILENO, unpacking::status(&bytes[0..length], &id), 2);
+        io::print_hex(STDOUT_FILENO, fip_read::status(&bytes[0..length], &id), 2);
     }
 }
 

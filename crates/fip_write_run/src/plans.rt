@@ -1,6 +1,6 @@
 // A plan, and what the writer makes of it.
+use fip_write::Outcome;
 use libc::STDOUT_FILENO;
-use packing::Outcome;
 
 const ENTRY: usize = 40;
 
@@ -24,7 +24,7 @@ pub(crate) fn with(d: Plan, k: u8, n: u8, offset: u64, size: u64) -> Plan {
     let mut plan = d;
     let mut id = [0u8; 16];
     id[0] = n;
-    packing::plan_image(&mut plan, k as u32, &id, offset, size, 0);
+    fip_write::plan_image(&mut plan, k as u32, &id, offset, size, 0);
     plan
 }
 
@@ -71,7 +71,7 @@ fn is_kept(out: &[u8]) -> bool {
 
 fn write_into(serial: u32, plan: &[u8], out: &mut [u8]) {
     let images = [1u8; POOL];
-    tell(packing::write(serial, 0, plan, &images, out));
+    tell(fip_write::write(serial, 0, plan, &images, out));
     if is_kept(out) {
         say(b", nothing written");
     }
