@@ -3,7 +3,7 @@ use libc::STDERR_FILENO;
 use libc::STDOUT_FILENO;
 
 // One byte more than a package has at most, so that a longer file is seen to be one.
-const SPACE: usize = fip_table::MOST_BYTES + 1;
+const SPACE: usize = fip_entries::MOST_BYTES + 1;
 
 // A line on standard error.
 fn say(line: &[u8]) {
@@ -19,11 +19,11 @@ fn give(bytes: &[u8]) {
 // The number of a refusal, and the rule that was broken.
 fn refuse(status: u64) {
     match status {
-        fip_table::WRONG_LENGTH => say(b"81: under 16 or over 65536 bytes\n"),
-        fip_table::WRONG_HEADER => say(b"82: another name than aa640001, or serial number 0\n"),
-        fip_table::WRONG_TABLE => say(b"83: no whole end entry after at most 64 entries\n"),
-        fip_table::SAME_IDENTIFIERS => say(b"84: an identifier stands twice\n"),
-        fip_table::WRONG_PLACE => say(
+        fip_entries::WRONG_LENGTH => say(b"81: under 16 or over 65536 bytes\n"),
+        fip_entries::WRONG_HEADER => say(b"82: another name than aa640001, or serial number 0\n"),
+        fip_entries::WRONG_TABLE => say(b"83: no whole end entry after at most 64 entries\n"),
+        fip_entries::SAME_IDENTIFIERS => say(b"84: an identifier stands twice\n"),
+        fip_entries::WRONG_PLACE => say(
             b"85: an image outside the package, or over the table or another image\n",
         ),
         _ => say(b"86: no image has this identifier, or it is all zero\n"),
@@ -32,7 +32,7 @@ fn refuse(status: u64) {
 
 fn list(pack: &[u8]) {
     let status = fip_read::judge(pack);
-    if status != fip_table::ACCEPTED {
+    if status != fip_entries::ACCEPTED {
         refuse(status);
         return;
     }
@@ -43,7 +43,7 @@ fn list(pack: &[u8]) {
 
 fn show(pack: &[u8], id: &[u8; 16]) {
     let status = fip_read::status(pack, id);
-    if status != fip_table::ACCEPTED {
+    if status != fip_entries::ACCEPTED {
         refuse(status);
         return;
     }

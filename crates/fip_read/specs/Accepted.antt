@@ -11,12 +11,12 @@ use borrow.Author.Tests.{ltb-true, ltb-false, lt-ltb, le-ltb, eqb-true, eqb-fals
 use Rattle.rules.specs.Choice.{pick, chosen, either, yes-or-no, neither, not-first, not-second}
 use Rattle.rules.specs.Tests.{sieve, Clear, sieved, goes, ends}
 use Rattle.rules.specs.Search.{first-is}
-use Rattle.fip_table.specs.Numbers.{four}
-use Rattle.fip_table.specs.Table.{entry, offset, size, same, zeros, blank, twins, doubled, strays, tableEnd, crowded, slots, count, unended, ended, holds, sought}
-use Rattle.fip_table.specs.Meaning.{same-bytes, bytes-same, zeros-byte, blank-zero, zero-blank, single-one, one-single, all-inside, inside-all}
-use Rattle.fip_table.specs.Meaning.{Apart, shares-apart, apart-shares, all-clear, clear-all, slots-most, slots-room, slots-have, firstly-one, count-is, count-room}
+use Rattle.fip_entries.specs.Numbers.{four}
+use Rattle.fip_entries.specs.Entries.{entry, offset, size, same, zeros, same-bytes, bytes-same, zeros-byte, Apart, shares-apart, apart-shares}
+use Rattle.fip_table.specs.Table.{blank, twins, doubled, strays, tableEnd, crowded, slots, count, unended, ended, holds, sought}
+use Rattle.fip_table.specs.Meaning.{blank-zero, zero-blank, single-one, one-single, all-inside, inside-all, all-clear, clear-all, slots-most, slots-room, slots-have, firstly-one, count-is, count-room}
 use Rattle.fip_read.specs.Reading.{wrongLength, wrongHeader, behind, entries, faults, judged, doubts, placed, located, statusOf, partOf}
-use Rattle.fip_read.specs.Reading.{length-least, length-most, right-header, locating, refused-part, at-status}
+use Rattle.fip_read.specs.Reading.{length-least, length-most, right-header, locating, refused-part, at-is, at-status}
 use Rattle.fip_read.specs.declared.Found.{Found}
 use Rattle.fip_read.specs.declared.Found.the-variants.{At, Refused}
 
@@ -159,7 +159,7 @@ passed-sound s p =
       ended = blank-zero t n (f .passes (omega arith));
       earlier = λ k a z. yes-or-no (blank t k) (zero-blank t k z) (f .before k (omega arith) a);
       single = λ i j a b q z. by-order (λ (i j : ℕ). i < n → j < n → ((b : ℕ) → b < 16 → idByte s i b ≡ idByte s j b) → ⊥)
-          (λ i j g a b z. yes-or-no (twins t i j) (bytes-same t (entry i) t (entry j) z) (single-one t n (p .single) i j a g))
+          (λ i j g a b z. yes-or-no (twins t i j) (bytes-same t (entry j) t (entry i) (λ k y. sym (z k y))) (single-one t n (p .single) i j a g))
           (λ i j g a b z. g b a (λ k y. sym (z k y))) i j q a b z;
       inside = all-inside t (length s) n (p .inside);
       clear = λ k a z. let g = all-clear t n (p .clear) k a z .0 in omega arith;
@@ -196,7 +196,7 @@ sound-passed s g =
       long = neither _ _ (le-ltb (length s) 16 (g .least)) (le-ltb 65536 (length s) (g .most));
       headed = sym (right-header s (g .name) (g .serial));
       ended = sym (ended t (slots-have (length t) n (omega (arith, g .few)) (omega (arith, g .whole))));
-      single = one-single t n (λ i j a b. false-unless (twins t i j) (λ y. g .single i j a (omega arith) (λ e. omega arith) (same-bytes t (entry i) t (entry j) y)));
+      single = one-single t n (λ i j a b. false-unless (twins t i j) (λ y. g .single i j a (omega arith) (λ e. omega arith) (λ k l. sym (same-bytes t (entry j) t (entry i) y k l))));
       inside = inside-all t (length s) n (g .inside);
       clear = clear-all t n (λ i a z. (omega (arith, g .clear i a z), λ j b. apart-shares t i j (λ y. g .apart i j a (omega arith) (λ e. omega arith) z y)));
     }
@@ -210,9 +210,13 @@ accepted s e = passed-sound s (judged-passed s e)
 pub sound-accepted : (s : List ℕ) (n : ℕ) → Sound s n → (judged s ≡ 0) × (n ≡ entries s)
 sound-accepted s n g = let e = counted s n g in (passed-judged s (sound-passed s (rw e at g)), e)
 
+-- It has a whole header; v is the fault that the code has in hand.
+pub accepted-least : (s : List ℕ) (v : ℕ) → v ≡ judged s → v ≡ 0 → 16 ≤ length s
+accepted-least s v w e = accepted s (sym w ∙ e) .least
+
 -- The table of an accepted package lies inside it, as the code has it in hand.
-pub table-inside : (s t : List ℕ) (n : ℕ) → t ≡ behind s → n ≡ count t → judged s ≡ 0 → 16 + 40 * n ≤ length s
-table-inside s t n is-t is-n e = let h : 16 + 40 * entries s + 40 ≤ length s = accepted s e .whole in rw (is-n, is-t) (omega arith)
+pub table-inside : (s t : List ℕ) (n v : ℕ) → t ≡ behind s → n ≡ count t → v ≡ judged s → v ≡ 0 → 16 + 40 * n ≤ length s
+table-inside s t n v is-t is-n w e = let h : 16 + 40 * entries s + 40 ≤ length s = accepted s (sym w ∙ e) .whole in rw (is-n, is-t) (omega arith)
 
 -- ---- the theorems: one image
 -- What is found is the image of the identifier asked for, and lies inside the package.
@@ -237,6 +241,10 @@ found s id a l e =
       long = y;
       within = omega (arith, g .inside k h);
     }) e
+
+-- It lies there, as the code has the answer in hand.
+pub found-inside : (s id : List ℕ) (y : Found) (a l : ℕ) → y ≡ located s id → y ≡ At a l → a + l ≤ length s
+found-inside s id y a l w e = found s id a l (at-is (located s id) y w a l e) .within
 
 -- Each image of an accepted package is found by its identifier.
 module _ (s id : List ℕ) (k : ℕ) (ok : judged s ≡ 0) (known : k < entries s) (asked : (b : ℕ) → b < 16 → idByte s k b ≡ getD id b 0) where
@@ -273,12 +281,12 @@ module _ (s id : List ℕ) (k : ℕ) (ok : judged s ≡ 0) (known : k < entries 
 
 -- A refused read shows an empty part.
 pub refused-empty : (s id : List ℕ) (v : ℕ) → located s id ≡ Refused v → partOf s (located s id) ≡ []
-refused-empty s id v e = sym (refused-part (located s id) v e s)
+refused-empty s id v e = sym (refused-part (located s id) (located s id) refl v e s)
 
 -- ---- the theorems: a status
 -- That of a found image is 0.
 pub found-status : (s id : List ℕ) (a l : ℕ) → located s id ≡ At a l → statusOf (located s id) ≡ 0
-found-status s id a l e = sym (at-status (located s id) a l e)
+found-status s id a l e = sym (at-status (located s id) (located s id) refl a l e)
 
 -- That of a package is 0 or the number of a refusal, and that of a refused question is such a number.
 pub judged-status : (s : List ℕ) → Status (judged s)

@@ -9,8 +9,9 @@ use borrow.Author.Tests.{ltb-false, eq-eqb, ne-eqb}
 use lib.ListN.{length, take, drop}
 use Rattle.rules.specs.Choice.{pick, picked, passed, first-or, second-or, neither, not-first, not-second, not-true, not-false}
 use Rattle.rules.specs.Tests.{Test, refuses, sieve, stops, goes, ends, said, numbers}
-use Rattle.fip_table.specs.Numbers.{four}
-use Rattle.fip_table.specs.Table.{offset, size, same, zeros, doubled, strays, crowded, count, unended, sought}
+use Rattle.fip_entries.specs.Numbers.{four}
+use Rattle.fip_entries.specs.Entries.{offset, size, same, zeros}
+use Rattle.fip_table.specs.Table.{doubled, strays, crowded, count, unended, sought}
 use Rattle.fip_read.specs.declared.Found.{Found}
 use Rattle.fip_read.specs.declared.Found.the-variants.{At, Refused}
 
@@ -114,9 +115,9 @@ module _ (s t : List ℕ) (n : ℕ) (is-t : t ≡ behind s) (is-n : n ≡ count 
   locating id v k a l is-v is-k is-a is-l r h = h ∙ rw (is-v, is-a, is-l, is-k, is-n, is-t)
 
   -- the part behind the header that ends with the entries, at e
-  pub tabling : (e : ℕ) → judged s ≡ 0 → e ≡ 40 * n → take (16 + e - 16) (behind s) ≡ tabled s
+  pub tabling : (e v : ℕ) → v ≡ judged s → v ≡ 0 → e ≡ 40 * n → take (16 + e - 16) (behind s) ≡ tabled s
   unfolding tabled
-  tabling e h g = let z : 16 + e - 16 ≡ 40 * n = omega arith in rw (z, is-n, is-t) (picked _ _ _ _ (eq-eqb (judged s) 0 h) refl)
+  tabling e v w h g = let z : 16 + e - 16 ≡ 40 * n = omega arith in rw (z, is-n, is-t) (picked _ _ _ _ (eq-eqb (judged s) 0 (sym w ∙ h)) refl)
 
 pub untabled : (s : List ℕ) → (judged s ≡ 0 → ⊥) → [] ≡ tabled s
 unfolding tabled
@@ -125,29 +126,35 @@ untabled s h = passed _ _ _ _ (ne-eqb (judged s) 0 h) refl
 -- the tests of a question, as they come
 pub ruleset doubting = (stops, goes, ends, said, first-or, second-or, neither, not-true, not-false, numbers)
 
--- ---- what an answer shows
-module _ (x : Found) (a l : ℕ) (e : x ≡ At a l) where
+-- ---- what an answer shows: y, which the code has in hand and takes apart
+module _ (x y : Found) (w : y ≡ x) (a l : ℕ) (e : y ≡ At a l) where
+  pub at-is : x ≡ At a l
+  at-is = sym w ∙ e
+
   pub at-status : 0 ≡ statusOf x
   unfolding statusOf
-  at-status = rw e
+  at-status = rw at-is
 
   pub at-part : (s : List ℕ) → take (a + l - a) (drop a s) ≡ partOf s x
   unfolding partOf
-  at-part s = let z : a + l - a ≡ l = omega arith in rw (e, z)
+  at-part s = let z : a + l - a ≡ l = omega arith in rw (at-is, z)
 
   pub at-address : (p : ℕ × ℕ) → (p .0, a + p .1) ≡ addressOf p x
   unfolding addressOf
-  at-address p = rw e
+  at-address p = rw at-is
 
-module _ (x : Found) (v : ℕ) (e : x ≡ Refused v) where
+module _ (x y : Found) (w : y ≡ x) (v : ℕ) (e : y ≡ Refused v) where
+  refused-is : x ≡ Refused v
+  refused-is = sym w ∙ e
+
   pub refused-status : v ≡ statusOf x
   unfolding statusOf
-  refused-status = rw e
+  refused-status = rw refused-is
 
   pub refused-part : (s : List ℕ) → [] ≡ partOf s x
   unfolding partOf
-  refused-part s = rw e
+  refused-part s = rw refused-is
 
   pub refused-address : (p : ℕ × ℕ) → p ≡ addressOf p x
   unfolding addressOf
-  refused-address p = rw e
+  refused-address p = rw refused-is

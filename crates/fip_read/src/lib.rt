@@ -14,10 +14,10 @@ pub enum Found {
 fn is_wrong_length(n: usize) -> bool
     ensures { λ r. ⌜ r ≡ wrongLength n ⌝ }
 {
-    if n < fip_table::HEADER_SIZE {
+    if n < fip_entries::HEADER_SIZE {
         return true;
     }
-    if fip_table::MOST_BYTES < n {
+    if fip_entries::MOST_BYTES < n {
         return true;
     }
     false
@@ -26,10 +26,10 @@ fn is_wrong_length(n: usize) -> bool
 fn is_wrong_header(pack: &[u8]) -> bool
     ensures { λ r. ⌜ r ≡ wrongHeader (now (pack .entry)) ⌝ }
 {
-    if fip_table::number(pack, 0) != fip_table::NAME {
+    if fip_entries::number(pack, 0) != fip_entries::NAME {
         return true;
     }
-    if fip_table::number(pack, 4) == 0 {
+    if fip_entries::number(pack, 4) == 0 {
         return true;
     }
     false
@@ -40,7 +40,7 @@ fn behind(pack: &[u8]) -> &[u8]
     requires { ⌜ 16 ≤ length (now pack) ⌝ }
     ensures { λ r. ⌜ now r ≡ drop 16 (now (pack .entry)) ⌝ }
 {
-    &pack[fip_table::HEADER_SIZE..]
+    &pack[fip_entries::HEADER_SIZE..]
 }
 
 // 0 where the package is accepted, or the number of the first rule that it breaks.
@@ -48,35 +48,35 @@ pub fn judge(pack: &[u8]) -> u64
     ensures { λ r. ⌜ r ≡ judged (now (pack .entry)) ⌝ }
 {
     if is_wrong_length(pack.len()) {
-        return fip_table::WRONG_LENGTH;
+        return fip_entries::WRONG_LENGTH;
     }
     if is_wrong_header(pack) {
-        return fip_table::WRONG_HEADER;
+        return fip_entries::WRONG_HEADER;
     }
     let t = behind(pack);
     if fip_table::is_unended(t) {
-        return fip_table::WRONG_TABLE;
+        return fip_entries::WRONG_TABLE;
     }
     let n = fip_table::count_of(t);
     if fip_table::has_twins(t, n) {
-        return fip_table::SAME_IDENTIFIERS;
+        return fip_entries::SAME_IDENTIFIERS;
     }
     if fip_table::has_stray(t, pack.len(), n) {
-        return fip_table::WRONG_PLACE;
+        return fip_entries::WRONG_PLACE;
     }
     if fip_table::is_crowded(t, n) {
-        return fip_table::WRONG_PLACE;
+        return fip_entries::WRONG_PLACE;
     }
-    fip_table::ACCEPTED
+    fip_entries::ACCEPTED
 }
 
 // The entries of an accepted package, 40 bytes each, in their order; nothing of one that is refused.
 pub fn table(pack: &[u8]) -> &[u8]
     ensures { λ r. ⌜ now r ≡ tabled (now (pack .entry)) ⌝ }
 {
-    if judge(pack) == fip_table::ACCEPTED {
-        let e = fip_table::HEADER_SIZE + fip_table::entry(fip_table::count_of(behind(pack)));
-        return &pack[fip_table::HEADER_SIZE..e];
+    if judge(pack) == fip_entries::ACCEPTED {
+        let e = fip_entries::HEADER_SIZE + fip_entries::entry(fip_table::count_of(behind(pack)));
+        return &pack[fip_entries::HEADER_SIZE..e];
     }
     &pack[..0]
 }
@@ -86,19 +86,19 @@ pub fn locate(pack: &[u8], id: &[u8; 16]) -> Found
     ensures { λ r. ⌜ r ≡ located (now (pack .entry)) (now (id .entry)) ⌝ }
 {
     let fault = judge(pack);
-    if fault == fip_table::ACCEPTED {
-        if fip_table::is_zero(id) {
-            return Found::Refused(fip_table::NO_IMAGE);
+    if fault == fip_entries::ACCEPTED {
+        if fip_entries::is_zero(id) {
+            return Found::Refused(fip_entries::NO_IMAGE);
         }
         let t = behind(pack);
         let n = fip_table::count_of(t);
         let k = fip_table::seek(t, n, id);
         if k < n {
-            let start = fip_table::offset_of(t, k) as usize;
-            let size = fip_table::size_of(t, k) as usize;
+            let start = fip_entries::offset_of(t, k) as usize;
+            let size = fip_entries::size_of(t, k) as usize;
             return Found::At { start, size };
         }
-        return Found::Refused(fip_table::NO_IMAGE);
+        return Found::Refused(fip_entries::NO_IMAGE);
     }
     Found::Refused(fault)
 }
@@ -108,7 +108,7 @@ pub fn status(pack: &[u8], id: &[u8; 16]) -> u64
     ensures { λ r. ⌜ r ≡ statusOf (located (now (pack .entry)) (now (id .entry))) ⌝ }
 {
     match locate(pack, id) {
-        Found::At { .. } => fip_table::ACCEPTED,
+        Found::At { .. } => fip_entries::ACCEPTED,
         Found::Refused(v) => v,
     }
 }

@@ -1,3 +1,3 @@
-pub mod Numbers
 pub mod Table
+pub mod Question
 pub mod Meaning

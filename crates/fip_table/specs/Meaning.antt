@@ -1,30 +1,18 @@
 -- What the tests of a table mean, as plain statements about bytes and numbers.
 use mathlib.Core.Path.{_≡_, sym, _∙_}
-use mathlib.Core.Bool.{Bool, true, false, not, _&&_, _||_}
+use mathlib.Core.Bool.{Bool, true, false, not, _||_}
 use mathlib.Core.List.{List}
-use mathlib.Core.Logic.{_⊎_, inl, inr, ⊎-elim}
 use Prim.Native.Nat.{ℕ, _+_, _*_, _/_, _≤_, _<_}
 use native.Mathlib.Omega.{arith}
 use lib.Dec.{ltb, eqb}
-use lib.ListN.{length, getD, getD-replicate}
-use borrow.Author.Tests.{ltb-true, ltb-false, le-ltb, eqb-true, eqb-false, eq-eqb, ne-eqb, not-false}
+use lib.ListN.{length, getD}
+use borrow.Author.Tests.{ltb-true, ltb-false, le-ltb, eqb-false, ne-eqb, not-false}
 use Rattle.rules.specs.Choice.{chosen, either, yes-or-no, left-false, right-false, neither, not-first, not-second, not-true}
-use Rattle.rules.specs.Search.{any, Firstly, first-is, all-at, all-if, any-not, any-if-not}
-use Rattle.fip_table.specs.Table.{entry, offset, size, agrees, same, zeros, blank, twins, repeated, doubled, outside, strays, begins, shares, tableEnd, covers, crowded, slots, count, unended}
+use Rattle.rules.specs.Search.{any, Firstly, first-is, any-not, any-if-not}
+use Rattle.fip_entries.specs.Entries.{entry, offset, size, zeros, outside, shares, same-bytes, bytes-same, zeros-byte, rest-false}
+use Rattle.fip_table.specs.Table.{blank, twins, repeated, doubled, strays, tableEnd, covers, crowded, slots, count, unended}
 
 -- ---- identifiers
-module _ (s : List ℕ) (a : ℕ) (t : List ℕ) (b : ℕ) where
-  pub same-bytes : same s a t b ≡ true → (i : ℕ) → i < 16 → getD s (a + i) 0 ≡ getD t (b + i) 0
-  unfolding same agrees
-  same-bytes e i h = eqb-true (getD s (a + i) 0) (getD t (b + i) 0) (all-at (agrees s a t b) 0 16 i e (omega arith) (omega arith))
-
-  pub bytes-same : ((i : ℕ) → i < 16 → getD s (a + i) 0 ≡ getD t (b + i) 0) → same s a t b ≡ true
-  unfolding same agrees
-  bytes-same f = all-if (agrees s a t b) 0 16 (λ i h l. eq-eqb (getD s (a + i) 0) (getD t (b + i) 0) (f i (omega arith)))
-
-pub zeros-byte : (i : ℕ) → i < 16 → getD zeros (0 + i) 0 ≡ 0
-zeros-byte i h = let e : 0 + i ≡ i = omega arith in rw e (getD-replicate 16 i 0 0 h)
-
 module _ (t : List ℕ) (k : ℕ) where
   pub blank-zero : blank t k ≡ true → (i : ℕ) → i < 16 → getD t (entry k + i) 0 ≡ 0
   unfolding blank
@@ -53,31 +41,6 @@ module _ (t : List ℕ) (room n : ℕ) where
   pub inside-all : ((k : ℕ) → k < n → offset t k + size t k ≤ room) → strays t room n ≡ false
   unfolding strays outside
   inside-all f = any-if-not (outside t room) 0 n (λ k h l. le-ltb room (offset t k + size t k) (f k (omega arith)))
-
--- where the first of two tests passes, both do unless the second fails
-rest-false : (a b : Bool) → (a && b) ≡ false → a ≡ true → b ≡ false
-rest-false a b e h = rw h at e
-
--- one of images i and j ends before the other begins
-abbrev pub Apart : List ℕ → ℕ → ℕ → Type 0
-Apart t i j = (offset t i + size t i ≤ offset t j) ⊎ (offset t j + size t j ≤ offset t i)
-
-module _ (t : List ℕ) (i j : ℕ) where
-  pub shares-apart : shares t i j ≡ false → (size t j ≡ 0 → ⊥) → Apart t i j
-  unfolding shares begins
-  shares-apart e z =
-      let h : (begins t i j && begins t j i) ≡ false = rest-false _ _ e (not-true _ (ne-eqb (size t j) 0 z)) in
-      either (begins t i j) (λ y. inl (ltb-false (offset t j) (offset t i + size t i) (rest-false (begins t i j) (begins t j i) h y)))
-      (λ y. inr (ltb-false (offset t i) (offset t j + size t j) y))
-
-  pub apart-shares : ((size t j ≡ 0 → ⊥) → Apart t i j) → shares t i j ≡ false
-  unfolding shares begins
-  apart-shares f =
-      either (eqb (size t j) 0) (λ y. left-false (not (eqb (size t j) 0)) (begins t i j && begins t j i) (rw y))
-      (λ y. right-false (not (eqb (size t j) 0)) _
-      (⊎-elim (λ (h : offset t i + size t i ≤ offset t j). right-false (begins t i j) _ (le-ltb (offset t j) (offset t i + size t i) h))
-      (λ (h : offset t j + size t j ≤ offset t i). left-false _ (begins t j i) (le-ltb (offset t i) (offset t j + size t j) h))
-      (f (eqb-false (size t j) 0 y))))
 
 module _ (t : List ℕ) (n : ℕ) where
   pub all-clear : crowded t n ≡ false → (i : ℕ) → i < n → (size t i ≡ 0 → ⊥) → (tableEnd n ≤ offset t i) × ((j : ℕ) → j < i → shares t i j ≡ false)

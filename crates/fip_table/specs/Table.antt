@@ -1,49 +1,23 @@
--- A table: entries of 40 bytes each, an identifier of 16 bytes, then offset, size and flags of the image, 8 bytes each. Of a package it is what follows the header; offsets still count from the package's first byte.
+-- A table: entries of 40 bytes each, one behind the other. Of a package it is what follows the header.
 use mathlib.Core.Path.{_≡_}
 use mathlib.Core.Bool.{Bool, true, false, not, _&&_, _||_}
 use mathlib.Core.List.{List}
 use Prim.Native.Nat.{ℕ, _+_, _*_, _/_, _≤_, _<_}
 use lib.Dec.{ltb, eqb}
 use borrow.Author.Tests.{lt-ltb, le-ltb, eq-eqb, ne-eqb}
-use lib.ListN.{length, getD, replicate}
+use lib.ListN.{length}
 use Rattle.rules.specs.Choice.{pick}
-use Rattle.rules.specs.Search.{all, any, first}
-use Rattle.fip_table.specs.Numbers.{eight}
-
--- ---- one entry
--- where entry k begins
-abbrev pub entry : ℕ → ℕ
-entry k = 40 * k
-
-unfoldable pub offset : List ℕ → ℕ → ℕ
-offset t k = eight t (entry k + 16)
-
-unfoldable pub size : List ℕ → ℕ → ℕ
-size t k = eight t (entry k + 24)
-
-unfoldable pub flags : List ℕ → ℕ → ℕ
-flags t k = eight t (entry k + 32)
+use Rattle.rules.specs.Search.{any, first}
+use Rattle.fip_entries.specs.Entries.{entry, offset, size, same, zeros, outside, shares}
 
 -- ---- identifiers
--- byte i of the identifier at a in s is that of the one at b in t
-unfoldable pub agrees : List ℕ → ℕ → List ℕ → ℕ → ℕ → Bool
-agrees s a t b i = eqb (getD s (a + i) 0) (getD t (b + i) 0)
-
--- both are one identifier
-unfoldable pub same : List ℕ → ℕ → List ℕ → ℕ → Bool
-same s a t b = all (agrees s a t b) 0 16
-
--- the identifier of zeros, which no image has
-abbrev pub zeros : List ℕ
-zeros = replicate 16 0
-
--- entry k is blank: it has that identifier
+-- entry k is blank: its identifier is all zero
 unfoldable pub blank : List ℕ → ℕ → Bool
 blank t k = same t (entry k) zeros 0
 
 -- entries i and j have one identifier
 unfoldable pub twins : List ℕ → ℕ → ℕ → Bool
-twins t i j = same t (entry i) t (entry j)
+twins t i j = same t (entry j) t (entry i)
 
 -- an entry before i has the identifier of entry i
 unfoldable pub repeated : List ℕ → ℕ → Bool
@@ -61,21 +35,9 @@ unfoldable pub sought : List ℕ → ℕ → List ℕ → ℕ
 sought t n id = first (holds t id) 0 n
 
 -- ---- images
--- image k does not end within the first `room` bytes; one of no bytes may begin where they end
-unfoldable pub outside : List ℕ → ℕ → ℕ → Bool
-outside t room k = ltb room (offset t k + size t k)
-
--- one of n images does not
+-- one of n images does not lie in the first `room` bytes
 unfoldable pub strays : List ℕ → ℕ → ℕ → Bool
 strays t room n = any (outside t room) 0 n
-
--- image i begins before image j ends
-unfoldable pub begins : List ℕ → ℕ → ℕ → Bool
-begins t i j = ltb (offset t i) (offset t j + size t j)
-
--- image j has bytes, and if image i has some too they share one
-unfoldable pub shares : List ℕ → ℕ → ℕ → Bool
-shares t i j = not (eqb (size t j) 0) && (begins t i j && begins t j i)
 
 -- how long header, n entries and end entry are together: the table of the package
 unfoldable pub tableEnd : ℕ → ℕ
@@ -103,47 +65,20 @@ unfoldable pub unended : List ℕ → Bool
 unended t = not (ltb (count t) (slots (length t)))
 
 -- ---- one law for each answer of a test
-module _ (s : List ℕ) (a : ℕ) (t : List ℕ) (b i : ℕ) where
-  pub agrees-yes : getD s (a + i) 0 ≡ getD t (b + i) 0 → agrees s a t b i ≡ true
-  unfolding agrees
-  agrees-yes h = eq-eqb _ _ h
+module _ (t : List ℕ) (i n : ℕ) where
+  pub covers-empty : size t i ≡ 0 → false ≡ covers t n i
+  unfolding covers
+  covers-empty h = rw (eq-eqb (size t i) 0 h)
 
-  pub agrees-no : (getD s (a + i) 0 ≡ getD t (b + i) 0 → ⊥) → agrees s a t b i ≡ false
-  unfolding agrees
-  agrees-no h = ne-eqb _ _ h
+  pub covers-table : (size t i ≡ 0 → ⊥) → offset t i < tableEnd n → true ≡ covers t n i
+  unfolding covers
+  covers-table z h = rw (ne-eqb (size t i) 0 z, lt-ltb (offset t i) (tableEnd n) h)
 
-module _ (t : List ℕ) (i : ℕ) where
-  module _ (j : ℕ) where
-    pub shares-empty : size t j ≡ 0 → false ≡ shares t i j
-    unfolding shares
-    shares-empty h = rw (eq-eqb (size t j) 0 h)
-
-    pub shares-before : (size t j ≡ 0 → ⊥) → begins t i j ≡ false → false ≡ shares t i j
-    unfolding shares
-    shares-before z h = rw (ne-eqb (size t j) 0 z, h)
-
-    pub shares-rest : (size t j ≡ 0 → ⊥) → begins t i j ≡ true → begins t j i ≡ shares t i j
-    unfolding shares
-    shares-rest z h = rw (ne-eqb (size t j) 0 z, h)
-
-  module _ (n : ℕ) where
-    pub covers-empty : size t i ≡ 0 → false ≡ covers t n i
-    unfolding covers
-    covers-empty h = rw (eq-eqb (size t i) 0 h)
-
-    pub covers-table : (size t i ≡ 0 → ⊥) → offset t i < tableEnd n → true ≡ covers t n i
-    unfolding covers
-    covers-table z h = rw (ne-eqb (size t i) 0 z, lt-ltb (offset t i) (tableEnd n) h)
-
-    pub covers-rest : (size t i ≡ 0 → ⊥) → tableEnd n ≤ offset t i → any (shares t i) 0 i ≡ covers t n i
-    unfolding covers
-    covers-rest z h = rw (ne-eqb (size t i) 0 z, le-ltb (offset t i) (tableEnd n) h)
+  pub covers-rest : (size t i ≡ 0 → ⊥) → tableEnd n ≤ offset t i → any (shares t i) 0 i ≡ covers t n i
+  unfolding covers
+  covers-rest z h = rw (ne-eqb (size t i) 0 z, le-ltb (offset t i) (tableEnd n) h)
 
 module _ (t : List ℕ) where
-  pub count-starts : (n : ℕ) → n ≡ slots (length t) → count t ≡ first (blank t) 0 n
-  unfolding count
-  count-starts n e = rw e
-
   pub ended : count t < slots (length t) → false ≡ unended t
   unfolding unended
   ended h = rw (lt-ltb _ _ h)

@@ -8,8 +8,8 @@ use Rattle.rules.specs.Choice.{pick}
 use Rattle.rules.specs.Search.{all}
 use Rattle.lines.specs.Cases.{signs}
 use Rattle.lines.specs.Hex.{signOf}
-use Rattle.fip_table.specs.Numbers.{two, four, eight}
-use Rattle.fip_table.specs.Table.{offset, size, flags}
+use Rattle.fip_entries.specs.Numbers.{two, four, eight}
+use Rattle.fip_entries.specs.Entries.{offset, size, flags}
 use Rattle.fip_text.specs.Identifiers.{run, idText}
 use Rattle.fip_text.specs.Names.{names, isText, nameAmong, nameText}
 use Rattle.fip_text.specs.Decimal.{inDecimal}

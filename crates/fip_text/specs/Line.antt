@@ -9,7 +9,7 @@ use lib.ListN.{length, take, drop, length-append}
 use Rattle.io.specs.Digits.{digits, Fewest}
 use Rattle.rules.specs.Choice.{pick}
 use Rattle.rules.specs.Laid.{laid, then, laid-append, length-laid}
-use Rattle.fip_table.specs.Table.{entry, offset, size, flags}
+use Rattle.fip_entries.specs.Entries.{entry, offset, size, flags}
 use Rattle.fip_text.specs.Identifiers.{idText, length-id}
 use Rattle.fip_text.specs.Names.{nameText}
 use Rattle.fip_text.specs.Decimal.{decimalText, decimal-is}

@@ -8,8 +8,8 @@ use lib.ListN.{length, take, length-drop}
 use lib.Seq.{getD-take, length-take-le}
 use borrow.Author.Tests.{ltb-false, eq-eqb}
 use Rattle.rules.specs.Choice.{pick, pick-yes, pick-no, either}
-use Rattle.fip_table.specs.Numbers.{two, four, eight}
-use Rattle.fip_table.specs.Table.{entry, offset, size, flags}
+use Rattle.fip_entries.specs.Numbers.{two, four, eight}
+use Rattle.fip_entries.specs.Entries.{entry, offset, size, flags}
 use Rattle.fip_read.specs.Reading.{judged, behind, entries, tabled, untabled}
 use Rattle.fip_read.specs.Accepted.{accepted}
 use Rattle.fip_text.specs.Identifiers.{run, idText}

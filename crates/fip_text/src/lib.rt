@@ -40,9 +40,9 @@ fn put_numbers(out: &mut [u8], at: usize, t: &[u8], k: u32) -> usize
     requires { ⌜ at + 63 ≤ length (now out) ⌝ }
     ensures { λ r. ⌜ Stands (now (out .entry)) at (numbersText (now (t .entry)) k) r (now (out .exit)) × (r ≤ at + 63) ⌝ }
 {
-    let a = put_number(out, at, fip_table::offset_of(t, k));
-    let b = put_number(out, a, fip_table::size_of(t, k));
-    put_number(out, b, fip_table::flags_of(t, k))
+    let a = put_number(out, at, fip_entries::offset_of(t, k));
+    let b = put_number(out, a, fip_entries::size_of(t, k));
+    put_number(out, b, fip_entries::flags_of(t, k))
 }
 
 // The line of entry k.
@@ -50,7 +50,7 @@ fn put_line(out: &mut [u8], at: usize, t: &[u8], k: u32) -> usize
     requires { ⌜ at + 152 ≤ length (now out) ⌝ }
     ensures { λ r. ⌜ Stands (now (out .entry)) at (lineText (now (t .entry)) k) r (now (out .exit)) × (r ≤ at + 152) ⌝ }
 {
-    let id = identifiers::text_of(t, fip_table::entry(k));
+    let id = identifiers::text_of(t, fip_entries::entry(k));
     pieces::put_text(out, at, &id);
     let a = put_numbers(out, at + identifiers::TEXT, t, k);
     let b = names::put_name(out, a, &id);
@@ -78,11 +78,11 @@ fn put_lines(out: &mut [u8], t: &[u8], n: u32) -> usize
 fn count_of(t: &[u8]) -> u32
     ensures { λ r. ⌜ (r ≡ listed (now (t .entry))) × (r ≤ 64) ⌝ }
 {
-    let n = t.len() / fip_table::ENTRY_SIZE;
-    if n < fip_table::MOST_IMAGES {
+    let n = t.len() / fip_entries::ENTRY_SIZE;
+    if n < fip_entries::MOST_IMAGES {
         return n as u32;
     }
-    fip_table::MOST_IMAGES as u32
+    fip_entries::MOST_IMAGES as u32
 }
 
 // The lines of a table's entries, in their order, from the start of the space on. It returns how many bytes they are.

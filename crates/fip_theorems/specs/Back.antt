@@ -12,11 +12,12 @@ use borrow.Author.Tests.{eq-eqb, ltb-true, ltb-false}
 use Rattle.rules.specs.Choice.{pick-yes, not-true, second-or, first-or, either, yes-or-no}
 use Rattle.rules.specs.Tests.{stops, goes}
 use Rattle.rules.specs.Search.{first-is}
-use Rattle.fip_table.specs.Numbers.{four, eight}
-use Rattle.fip_table.specs.Table.{entry, offset, size, same, zeros, twins, holds, sought, tableEnd}
-use Rattle.fip_table.specs.Table as Table
+use Rattle.fip_entries.specs.Numbers.{four, eight}
+use Rattle.fip_entries.specs.Entries.{entry, offset, size, same, zeros, same-bytes, bytes-same}
+use Rattle.fip_table.specs.Table.{twins, holds, sought, tableEnd}
+use Rattle.fip_entries.specs.Entries as Entries
 use Rattle.fip_read.specs.Reading.{behind, entries, judged, tabled, doubts, located, partOf}
-use Rattle.fip_table.specs.Meaning.{same-bytes, bytes-same, zero-blank}
+use Rattle.fip_table.specs.Meaning.{zero-blank}
 use Rattle.fip_read.specs.Accepted.{Sound, sound-accepted, found-by-name}
 use Rattle.fip_read.specs.declared.Found.the-variants as Found
 use Rattle.fip_write.specs.Packed.{spell, copied, header, row, total, packed, length-packed, copied-is}
@@ -65,8 +66,8 @@ module _ (serial flags : ℕ) (d pool : List ℕ) (space : ℕ) (u32 : serial < 
   ends k h = let z : 0 + k ≡ k = omega arith in omega (arith, rw z at (sizes-to d 0 n k h))
 
   -- the entry of image k, wherever its bytes stand
-  entry-in : (s : List ℕ) (k : ℕ) → k < n → copied s (entry k) 40 ≡ row d k (place d n k) → Entry s k (identifier d k) (place d n k) (size d k) (Table.flags d k)
-  unfolding size Table.flags
+  entry-in : (s : List ℕ) (k : ℕ) → k < n → copied s (entry k) 40 ≡ row d k (place d n k) → Entry s k (identifier d k) (place d n k) (size d k) (Entries.flags d k)
+  unfolding size Entries.flags
   entry-in s k h r =
       let e = entry-of s _ _ _ _ k r (row-parts d k (place d n k)) in
       let q : (i : ℕ) → i + 8 ≤ 16 → number (copied (copied d (entry k + 24) 16) i 8) ≡ eight d (entry k + 24 + i) =
@@ -80,7 +81,7 @@ module _ (serial flags : ℕ) (d pool : List ℕ) (space : ℕ) (u32 : serial < 
         has-flags = e .has-flags ∙ rw y at (q 8 (omega arith));
       }
 
-  row-entry : (k : ℕ) → k < n → Entry t k (identifier d k) (place d n k) (size d k) (Table.flags d k)
+  row-entry : (k : ℕ) → k < n → Entry t k (identifier d k) (place d n k) (size d k) (Entries.flags d k)
   row-entry k h = entry-in t k h (packed-row serial flags d pool n k h)
 
   end-entry : Entry t n zeros (total d n) 0 0
@@ -102,7 +103,7 @@ module _ (serial flags : ℕ) (d pool : List ℕ) (space : ℕ) (u32 : serial < 
   other-id : (i j : ℕ) → i < n → j < i → ((b : ℕ) → b < 16 → getD t (entry i + b) 0 ≡ getD t (entry j + b) 0) → ⊥
   unfolding twins
   other-id i j h l e =
-      yes-or-no _ (bytes-same d (entry i) d (entry j) (λ b m. sym (id-byte i h b m) ∙ e b m ∙ id-byte j (omega arith) b m)) (f .single i j h l)
+      yes-or-no _ (bytes-same d (entry j) d (entry i) (λ b m. sym (id-byte j (omega arith) b m) ∙ sym (e b m) ∙ id-byte i h b m)) (f .single i j h l)
 
   later : (i j : ℕ) → i < n → j < i → offset t j + size t j ≤ offset t i
   later i j h l =
@@ -144,7 +145,7 @@ module _ (serial flags : ℕ) (d pool : List ℕ) (space : ℕ) (u32 : serial < 
   unfolding total tableEnd
   shown-long = rw shown (length-take-le (40 * n) t (omega (arith, long, length-drop 16 p)))
 
-  each : (k : ℕ) → k < n → Entry (tabled p) k (identifier d k) (place d n k) (size d k) (Table.flags d k)
+  each : (k : ℕ) → k < n → Entry (tabled p) k (identifier d k) (place d n k) (size d k) (Entries.flags d k)
   each k h = entry-in (tabled p) k h (rw shown (copied-take t (40 * n) (entry k) 40 (omega arith) ∙ packed-row serial flags d pool n k h))
 
   -- ---- one image

@@ -6,7 +6,7 @@ use native.Mathlib.Omega.{arith}
 use native.Mathlib.Nat.{pow-zero, pow-suc}
 use lib.ListN.{length, getD, take, drop, List·getD-append}
 use lib.Seq.{take-length, getD-append-add, getD-drop, getD-take}
-use Rattle.fip_table.specs.Numbers.{two, four, eight}
+use Rattle.fip_entries.specs.Numbers.{two, four, eight}
 use Rattle.fip_write.specs.Packed.{spell, copied, copied-is}
 
 -- ---- what is copied, byte by byte

@@ -7,8 +7,9 @@ use Rattle.rules.specs.Choice.{pick}
 use Rattle.rules.specs.Search.{all, any, first}
 use Rattle.rules.specs.Tests.{sieve}
 use Rattle.rules.specs.Laid.{laid}
-use Rattle.fip_table.specs.Numbers.{two, four, eight}
-use Rattle.fip_table.specs.Table.{offset, size, agrees, same, blank, twins, repeated, doubled, holds, sought, outside, strays, begins, shares, tableEnd, covers, crowded, slots, count, unended}
+use Rattle.fip_entries.specs.Numbers.{two, four, eight}
+use Rattle.fip_entries.specs.Entries.{offset, size, agrees, same, outside, begins, shares}
+use Rattle.fip_table.specs.Table.{blank, twins, repeated, doubled, holds, sought, strays, tableEnd, covers, crowded, slots, count, unended}
 use Rattle.fip_read.specs.Reading.{wrongLength, wrongHeader, faults, judged, doubts, placed, located, partOf}
 use Rattle.fip_read.specs.declared.Found.the-variants as Found
 use Rattle.fip_write.specs.Packed.{spell, copied, header, row, rows, ending, images, sizes, total, packed}

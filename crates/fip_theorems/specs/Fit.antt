@@ -9,7 +9,8 @@ use borrow.Author.Tests.{ltb-false, eqb-false}
 use Rattle.rules.specs.Choice.{not-first, not-second}
 use Rattle.rules.specs.Tests.{Clear}
 use Rattle.rules.specs.Search.{any-not}
-use Rattle.fip_table.specs.Table.{offset, size, blank, twins}
+use Rattle.fip_entries.specs.Entries.{offset, size}
+use Rattle.fip_table.specs.Table.{blank, twins}
 use Rattle.fip_table.specs.Meaning.{single-one, all-inside}
 use Rattle.fip_write.specs.Packed.{total}
 use Rattle.fip_write.specs.Writing.{planned, hindrances, weighed}

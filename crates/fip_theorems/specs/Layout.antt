@@ -4,7 +4,8 @@ use mathlib.Core.List.{List, _++_}
 use Prim.Native.Nat.{ℕ, zero, suc, _+_, _*_, _≤_, _<_}
 use native.Mathlib.Omega.{arith}
 use lib.ListN.{length}
-use Rattle.fip_table.specs.Table.{entry, offset, size, flags, tableEnd}
+use Rattle.fip_entries.specs.Entries.{entry, offset, size, flags}
+use Rattle.fip_table.specs.Table.{tableEnd}
 use Rattle.fip_read.specs.Reading.{behind}
 use Rattle.fip_write.specs.Packed.{spell, copied, header, row, rows, ending, images, sizes, total, packed, length-spell, length-copied, length-header, length-row, length-rows, length-ending}
 use Rattle.fip_theorems.specs.Statements.{Entry, place}

@@ -4,9 +4,10 @@ use mathlib.Core.Bool.{Bool, true}
 use mathlib.Core.List.{List, [], _∷_, List·Memᴰ}
 use Prim.Native.Nat.{ℕ, _+_, _*_, _<_}
 use lib.ListN.{length, take, drop}
-use Rattle.fip_table.specs.Numbers.{four, eight}
-use Rattle.fip_table.specs.Table.{entry, zeros, tableEnd}
-use Rattle.fip_table.specs.Table as Table
+use Rattle.fip_entries.specs.Numbers.{four, eight}
+use Rattle.fip_entries.specs.Entries.{entry, zeros}
+use Rattle.fip_table.specs.Table.{tableEnd}
+use Rattle.fip_entries.specs.Entries as Entries
 use Rattle.fip_read.specs.Reading.{behind, entries, judged, tabled, located, partOf}
 use Rattle.fip_read.specs.declared.Found.the-variants as Found
 use Rattle.fip_write.specs.Packed.{copied, sizes, total}
@@ -20,7 +21,7 @@ identifier d k = copied d (entry k) 16
 
 -- its bytes, among the image bytes that are lent
 abbrev pub image : List ℕ → List ℕ → ℕ → List ℕ
-image d pool k = take (Table.size d k) (drop (Table.offset d k) pool)
+image d pool k = take (Entries.size d k) (drop (Entries.offset d k) pool)
 
 -- where it is to lie in a package of n images: behind the table and the images before it, with no gap
 abbrev pub place : List ℕ → ℕ → ℕ → ℕ
@@ -29,9 +30,9 @@ place d n k = tableEnd n + sizes d 0 k
 -- ---- entry k of a table t has these fields
 pub record Entry (t : List ℕ) (k : ℕ) (id : List ℕ) (offset size flags : ℕ) : Type 0 where
   pub has-identifier : copied t (entry k) 16 ≡ id
-  pub has-offset : Table.offset t k ≡ offset
-  pub has-size : Table.size t k ≡ size
-  pub has-flags : Table.flags t k ≡ flags
+  pub has-offset : Entries.offset t k ≡ offset
+  pub has-size : Entries.size t k ≡ size
+  pub has-flags : Entries.flags t k ≡ flags
 
 -- ---- what is so of a package p that was written for the plan d, whose images lie in the pool
 pub record Package (serial flags : ℕ) (d pool p : List ℕ) : Type 0 where
@@ -52,11 +53,11 @@ pub record Package (serial flags : ℕ) (d pool p : List ℕ) : Type 0 where
   -- They are all there.
   pub shown-long : length (tabled p) ≡ 40 * planned d
   -- Each entry has its image's identifier, size and flags as planned, and as its offset the place where the images before it end.
-  pub each : (k : ℕ) → k < planned d → Entry (tabled p) k (identifier d k) (place d (planned d) k) (Table.size d k) (Table.flags d k)
+  pub each : (k : ℕ) → k < planned d → Entry (tabled p) k (identifier d k) (place d (planned d) k) (Entries.size d k) (Entries.flags d k)
   -- The end entry is zero but for its offset, the package's length.
   pub last : Entry (behind p) (planned d) zeros (length p) 0 0
   -- Each image is found by its identifier, where its entry says.
-  pub found : (k : ℕ) → k < planned d → located p (identifier d k) ≡ Found.At (place d (planned d) k) (Table.size d k)
+  pub found : (k : ℕ) → k < planned d → located p (identifier d k) ≡ Found.At (place d (planned d) k) (Entries.size d k)
   -- What is found is the image that was given, byte for byte.
   pub given-back : (k : ℕ) → k < planned d → partOf p (located p (identifier d k)) ≡ image d pool k
   -- An identifier that no image of the plan has is refused as not found.

@@ -11,7 +11,7 @@ use borrow.Author.Tests.{lt-ltb, ltb-true, ltb-false}
 use Rattle.rules.specs.Choice.{pick-yes, pick-no, either}
 use Rattle.rules.specs.Tests.{Test, sieve}
 use Rattle.rules.specs.Laid.{laid, length-laid}
-use Rattle.fip_table.specs.Table.{entry}
+use Rattle.fip_entries.specs.Entries.{entry}
 use Rattle.fip_write.specs.Packed.{spell, total, packed, length-spell, length-packed}
 use Rattle.fip_write.specs.Writing.{planned, hindrances, weighed, wrote, entryOf, plannedAt, plan-kept}
 use Rattle.fip_write.specs.Weighing.{wrote-done, wrote-not}

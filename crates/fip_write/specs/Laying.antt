@@ -8,7 +8,8 @@ use lib.ListN.{length, getD, set}
 use borrow.Author.Tests.{ltb-false}
 use Rattle.rules.specs.Search.{any-not}
 use Rattle.rules.specs.Laid.{laid, laid-one, laid-append, length-laid, then}
-use Rattle.fip_table.specs.Table.{entry, offset, size, outside, strays, tableEnd}
+use Rattle.fip_entries.specs.Entries.{entry, offset, size, outside}
+use Rattle.fip_table.specs.Table.{strays, tableEnd}
 use Rattle.fip_write.specs.Packed.{spell, copied, header, row, rows, ending, images, sizes, total, packed, length-spell, length-copied, length-header, length-row, length-rows, length-ending, spell-next, copied-next, rows-next, images-next, sizes-next, spell-none, copied-none, rows-none, images-none, sizes-none}
 
 -- a loop has laid something over the bytes o and has p now: what is left, laid at a place, makes w of it

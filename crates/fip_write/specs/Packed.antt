@@ -6,7 +6,8 @@ use native.Mathlib.Numerals.{add-one}
 use native.Mathlib.Omega.{arith}
 use lib.ListN.{length, getD, take, drop, length-append}
 use lib.Seq.{drop-cons}
-use Rattle.fip_table.specs.Table.{entry, offset, size, tableEnd}
+use Rattle.fip_entries.specs.Entries.{entry, offset, size}
+use Rattle.fip_table.specs.Table.{tableEnd}
 
 -- a number in n bytes, the lowest first
 unfoldable pub spell : ℕ → ℕ → List ℕ

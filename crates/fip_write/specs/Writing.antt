@@ -12,7 +12,8 @@ use Rattle.rules.specs.Choice.{pick, picked, passed}
 use Rattle.rules.specs.Search.{any}
 use Rattle.rules.specs.Tests.{Test, refuses, sieve}
 use Rattle.rules.specs.Laid.{laid, then}
-use Rattle.fip_table.specs.Table.{entry, blank, doubled, strays}
+use Rattle.fip_entries.specs.Entries.{entry}
+use Rattle.fip_table.specs.Table.{blank, doubled, strays}
 use Rattle.fip_write.specs.Packed.{spell, copied, total, packed, copied-is}
 use Rattle.fip_write.specs.declared.Outcome.{Outcome}
 use Rattle.fip_write.specs.declared.Outcome.the-variants.{Written, Refused}

@@ -29,10 +29,10 @@ pub fn plan_image(
 ) -> bool
     ensures { λ r. ⌜ (r, now (plan .exit)) ≡ plannedAt (now (plan .entry)) k (now (id .entry)) offset size flags ⌝ }
 {
-    if plan.len() / fip_table::ENTRY_SIZE <= k as usize {
+    if plan.len() / fip_entries::ENTRY_SIZE <= k as usize {
         return false;
     }
-    let at = fip_table::ENTRY_SIZE * k as usize;
+    let at = fip_entries::ENTRY_SIZE * k as usize;
     parts::put_bytes(plan, at, id, 0, 16);
     parts::put_numbers(plan, at + 16, offset, size, flags);
     true
@@ -43,7 +43,7 @@ fn count_of(plan: &[u8]) -> u32
     requires { ⌜ planned (now plan) ≤ 64 ⌝ }
     ensures { λ r. ⌜ (r ≡ planned (now (plan .entry))) × (r ≤ 64) ⌝ }
 {
-    (plan.len() / fip_table::ENTRY_SIZE) as u32
+    (plan.len() / fip_entries::ENTRY_SIZE) as u32
 }
 
 // How long the package of a plan is, or some length over the most where it is longer than that.
@@ -55,9 +55,9 @@ fn length_of(plan: &[u8], n: u32) -> usize
     let mut k: u32 = 0;
     let mut unseen = n;
     while 0 < unseen {
-        let size = fip_table::size_of(plan, k) as usize;
-        if fip_table::MOST_BYTES - at < size {
-            return fip_table::MOST_BYTES + 1;
+        let size = fip_entries::size_of(plan, k) as usize;
+        if fip_entries::MOST_BYTES - at < size {
+            return fip_entries::MOST_BYTES + 1;
         }
         at += size;
         k += 1;
@@ -71,29 +71,29 @@ fn weigh(serial: u32, plan: &[u8], room: usize, space: usize) -> u64
     ensures { λ r. ⌜ r ≡ weighed serial (now (plan .entry)) room space ⌝ }
 {
     if serial == 0 {
-        return fip_table::WRONG_HEADER;
+        return fip_entries::WRONG_HEADER;
     }
-    if fip_table::MOST_IMAGES < plan.len() / fip_table::ENTRY_SIZE {
-        return fip_table::WRONG_TABLE;
+    if fip_entries::MOST_IMAGES < plan.len() / fip_entries::ENTRY_SIZE {
+        return fip_entries::WRONG_TABLE;
     }
     let n = count_of(plan);
     if fip_table::has_blank(plan, n) {
-        return fip_table::WRONG_TABLE;
+        return fip_entries::WRONG_TABLE;
     }
     if fip_table::has_twins(plan, n) {
-        return fip_table::SAME_IDENTIFIERS;
+        return fip_entries::SAME_IDENTIFIERS;
     }
     if fip_table::has_stray(plan, room, n) {
-        return fip_table::WRONG_PLACE;
+        return fip_entries::WRONG_PLACE;
     }
     let length = length_of(plan, n);
-    if fip_table::MOST_BYTES < length {
-        return fip_table::NO_ROOM;
+    if fip_entries::MOST_BYTES < length {
+        return fip_entries::NO_ROOM;
     }
     if space < length {
-        return fip_table::NO_ROOM;
+        return fip_entries::NO_ROOM;
     }
-    fip_table::ACCEPTED
+    fip_entries::ACCEPTED
 }
 
 // The package of a plan of n images that breaks no rule; its length.
@@ -115,7 +115,7 @@ pub fn write(serial: u32, flags: u64, plan: &[u8], pool: &[u8], out: &mut [u8]) 
     ensures { λ r. ⌜ (r, now (out .exit)) ≡ wrote serial flags (now (plan .entry)) (now (pool .entry)) (now (out .entry)) ⌝ }
 {
     let fault = weigh(serial, plan, pool.len(), out.len());
-    if fault == fip_table::ACCEPTED {
+    if fault == fip_entries::ACCEPTED {
         return Outcome::Written(fill(serial, flags, plan, count_of(plan), pool, out));
     }
     Outcome::Refused(fault)

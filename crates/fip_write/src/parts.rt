@@ -54,7 +54,7 @@ pub(crate) fn put_header(out: &mut [u8], serial: u32, flags: u64)
     requires { ⌜ 16 ≤ length (now out) ⌝ }
     ensures { λ _. ⌜ now (out .exit) ≡ laid (now (out .entry)) 0 (header serial flags) ⌝ }
 {
-    put_number(out, 0, fip_table::NAME, 4);
+    put_number(out, 0, fip_entries::NAME, 4);
     put_number(out, 4, serial as u64, 4);
     put_number(out, 8, flags, 8);
 }
@@ -64,7 +64,7 @@ fn put_row(out: &mut [u8], at: usize, plan: &[u8], k: u32, start: usize)
     requires { ⌜ (at + 40 ≤ length (now out)) × (40 * k + 40 ≤ length (now plan)) ⌝ }
     ensures { λ _. ⌜ now (out .exit) ≡ laid (now (out .entry)) at (row (now (plan .entry)) k start) ⌝ }
 {
-    let from = fip_table::ENTRY_SIZE * k as usize;
+    let from = fip_entries::ENTRY_SIZE * k as usize;
     put_bytes(out, at, plan, from, 16);
     put_number(out, at + 16, start as u64, 8);
     put_bytes(out, at + 24, plan, from + 24, 16);
@@ -81,12 +81,12 @@ pub(crate) fn put_rows(out: &mut [u8], plan: &[u8], n: u32)
     while 0 < unput {
         put_row(
             out,
-            fip_table::HEADER_SIZE + fip_table::ENTRY_SIZE * k as usize,
+            fip_entries::HEADER_SIZE + fip_entries::ENTRY_SIZE * k as usize,
             plan,
             k,
             start,
         );
-        start += fip_table::size_of(plan, k) as usize;
+        start += fip_entries::size_of(plan, k) as usize;
         k += 1;
         unput -= 1;
     }
@@ -97,7 +97,7 @@ pub(crate) fn put_ending(out: &mut [u8], n: u32, whole: usize)
     requires { ⌜ (n ≤ 64) × (16 + (40 * n + 40) ≤ length (now out)) ⌝ }
     ensures { λ _. ⌜ now (out .exit) ≡ laid (now (out .entry)) (16 + 40 * n) (ending whole) ⌝ }
 {
-    let at = fip_table::HEADER_SIZE + fip_table::ENTRY_SIZE * n as usize;
+    let at = fip_entries::HEADER_SIZE + fip_entries::ENTRY_SIZE * n as usize;
     put_number(out, at, 0, 16);
     put_number(out, at + 16, whole as u64, 8);
     put_number(out, at + 24, 0, 16);
@@ -112,8 +112,14 @@ pub(crate) fn put_images(out: &mut [u8], plan: &[u8], pool: &[u8], n: u32)
     let mut unput = n;
     let mut at = fip_table::table_end(n);
     while 0 < unput {
-        let size = fip_table::size_of(plan, k) as usize;
-        put_bytes(out, at, pool, fip_table::offset_of(plan, k) as usize, size);
+        let size = fip_entries::size_of(plan, k) as usize;
+        put_bytes(
+            out,
+            at,
+            pool,
+            fip_entries::offset_of(plan, k) as usize,
+            size,
+        );
         at += size;
         k += 1;
         unput -= 1;

@@ -1,7 +1,7 @@
 -- `locate` meets its promise, since it asks the tests of `doubts` in their order.
 use mathlib.Core.Path.{refl}
 use Rattle.fip_read.specs.Reading.{locating, doubting}
-use Rattle.fip_read.specs.Accepted.{accepted}
+use Rattle.fip_read.specs.Accepted.{accepted-least}
 use borrow.Author.Needs.{needs}
 use Rattle.fip_read.proofs.locate.Statement.{statement}
 use Rattle.fip_read.proofs.locate.Tie as tie
@@ -16,7 +16,7 @@ returns : tie.Need-returns
 returns c = locating _ _ _ refl refl _ _ _ _ _ (c .before .before .before .before .judge .ensures) refl refl refl _ (search doubting depth 20)
 
 behind-requires : tie.Need-behind-requires
-behind-requires c κs = accepted (c .before .before .before .before .before .before .args .pack .now) (cc) .least
+behind-requires c κs = search accepted-least
 
 count-of-requires : tie.Need-count-of-requires
 count-of-requires c κs = search needs

@@ -14,10 +14,10 @@ enum-known-v : tie.Need-enum-known-v
 enum-known-v c = search needs
 
 returns : tie.Need-returns
-returns c = at-status _ (c .enum-told .given .0 .0) (c .enum-told .given .0 .1 .0) (cc)
+returns c = search at-status
 
 returns-2 : tie.Need-returns-2
-returns-2 c = refused-status _ (c .before .v .given .0 .0) (cc)
+returns-2 c = search refused-status
 
 pub status-spec : {M : Type 1} → statement M
 status-spec = tie.close (tie.spec locate-requires enum-told enum-known-v returns returns-2)

@@ -1,6 +1,6 @@
 -- `table` meets its promise, since the entries of an accepted package lie inside it.
 use Rattle.fip_read.specs.Reading.{tabling, untabled}
-use Rattle.fip_read.specs.Accepted.{accepted, table-inside}
+use Rattle.fip_read.specs.Accepted.{accepted-least, table-inside}
 use borrow.Author.Needs.{needs}
 use Rattle.fip_read.proofs.table.Statement.{statement}
 use Rattle.fip_read.proofs.table.Tie as tie
@@ -9,7 +9,7 @@ judge-requires : tie.Need-judge-requires
 judge-requires c κs = search needs
 
 behind-requires : tie.Need-behind-requires
-behind-requires c κs = accepted (c .before .before .before .args .pack .now) (cc) .least
+behind-requires c κs = accepted-least _ _ (c .before .judge .ensures) (c .if1 .taken)
 
 count-of-requires : tie.Need-count-of-requires
 count-of-requires c κs = search needs
@@ -28,12 +28,12 @@ part-result-start c = search needs
 
 part-result-end : tie.Need-part-result-end
 part-result-end c =
-    let h = table-inside (c .before .before .before .before .before .before .args .pack .now) _ _ (c .before .before .behind .ensures) (c .before .count-of .ensures) (cc) in
+    let h = table-inside _ _ _ _ (c .before .before .behind .ensures) (c .before .count-of .ensures) (c .before .before .before .before .judge .ensures) (c .before .before .before .if1 .taken) in
     search needs
 
 returns : tie.Need-returns
 returns c =
-    tabling _ _ _ (c .before .before .before .behind .ensures) (c .before .before .count-of .ensures) (c .before .entry .result) (cc) (search needs)
+    tabling _ _ _ (c .before .before .before .behind .ensures) (c .before .before .count-of .ensures) (c .before .entry .result) _ (c .before .before .before .before .before .judge .ensures) (c .before .before .before .before .if1 .taken) (search needs)
 
 slice-aggregate-result : tie.Need-slice-aggregate-result
 slice-aggregate-result c = search needs

@@ -1,54 +1,17 @@
--- `has_blank` meets its promise, since each turn takes one entry off those that are still to be looked at.
-use mathlib.Core.Path.{_≡_}
-use Prim.Native.Nat.{_+_}
+-- `has_blank` meets its promise, since an entry is found exactly where one is blank.
+use Rattle.fip_table.specs.Question.{blank-found}
 use borrow.Author.Needs.{needs}
-use Rattle.rules.specs.Tests.{said}
-use Rattle.rules.specs.Search.{any, any-goes, any-stops, any-ends}
-use Rattle.fip_table.specs.Table.{blank}
 use Rattle.fip_table.proofs.has_blank.Statement.{statement}
 use Rattle.fip_table.proofs.has_blank.Tie as tie
 
-abbrev Inv-loop : tie.InvT-loop
-Inv-loop t n i₀ unseen₀ i unseen = (i + unseen ≡ n) × (any (blank t) 0 n ≡ any (blank t) i unseen)
+slice-aggregate-find : tie.Need-slice-aggregate-find
+slice-aggregate-find c = search needs
 
-abbrev μ-loop : tie.MeasureT-loop
-μ-loop t n i₀ unseen₀ i unseen = unseen
+find-requires : tie.Need-find-requires
+find-requires c κs = search needs
 
-loop-holds : tie.Need-loop-holds Inv-loop μ-loop
-loop-holds c = search needs
-
-is-blank-requires : tie.Need-is-blank-requires Inv-loop μ-loop
-is-blank-requires c κs = search needs
-
-returns : tie.Need-returns Inv-loop μ-loop
-returns c = any-stops _ _ _ _ (c .before .before .before .loop .inv .1) (search needs) (search said)
-
-add-i : tie.Need-add-i Inv-loop μ-loop
-add-i c = search needs
-
-sub-unseen : tie.Need-sub-unseen Inv-loop μ-loop
-sub-unseen c = search needs
-
-loop-less : tie.Need-loop-less Inv-loop μ-loop
-loop-less c = search needs
-
-loop-again : tie.Need-loop-again Inv-loop μ-loop
-loop-again c = (search needs, any-goes _ _ _ _ (c .before .before .before .loop .inv .1) (search needs) (search said))
-
-returns-2 : tie.Need-returns-2 Inv-loop μ-loop
-returns-2 c = any-ends _ _ _ _ (c .before .loop .inv .1) (search needs)
+returns : tie.Need-returns
+returns c = search blank-found
 
 pub has-blank-spec : {M : Type 1} → statement M
-has-blank-spec =
-    tie.close
-    (tie.spec
-    Inv-loop
-    μ-loop
-    loop-holds
-    is-blank-requires
-    returns
-    add-i
-    sub-unseen
-    loop-less
-    loop-again
-    returns-2)
+has-blank-spec = tie.close (tie.spec slice-aggregate-find find-requires returns)

@@ -1,55 +1,14 @@
--- `has_twins` meets its promise, since each turn takes one entry off those that are still to be compared with the ones before them.
-use mathlib.Core.Path.{_≡_}
-use Prim.Native.Nat.{_+_}
+-- `has_twins` meets its promise, since a twin before it is what may be wrong with an entry.
+use Rattle.fip_table.specs.Question.{doubled-is}
 use borrow.Author.Needs.{needs}
-use Rattle.rules.specs.Tests.{said}
-use Rattle.rules.specs.Search.{any, any-goes, any-stops, any-ends}
-use Rattle.fip_table.specs.Table.{doubled, repeated}
 use Rattle.fip_table.proofs.has_twins.Statement.{statement}
 use Rattle.fip_table.proofs.has_twins.Tie as tie
 
-abbrev Inv-loop : tie.InvT-loop
-Inv-loop t n i₀ unseen₀ i unseen = (i + unseen ≡ n) × (doubled t n ≡ any (repeated t) i unseen)
+any-clashes-requires : tie.Need-any-clashes-requires
+any-clashes-requires c κs = search needs
 
-abbrev μ-loop : tie.MeasureT-loop
-μ-loop t n i₀ unseen₀ i unseen = unseen
-
-loop-holds : tie.Need-loop-holds Inv-loop μ-loop
-unfolding doubled
-loop-holds c = search needs
-
-is-repeated-requires : tie.Need-is-repeated-requires Inv-loop μ-loop
-is-repeated-requires c κs = search needs
-
-returns : tie.Need-returns Inv-loop μ-loop
-returns c = any-stops _ _ _ _ (c .before .before .before .loop .inv .1) (search needs) (search said)
-
-add-i : tie.Need-add-i Inv-loop μ-loop
-add-i c = search needs
-
-sub-unseen : tie.Need-sub-unseen Inv-loop μ-loop
-sub-unseen c = search needs
-
-loop-less : tie.Need-loop-less Inv-loop μ-loop
-loop-less c = search needs
-
-loop-again : tie.Need-loop-again Inv-loop μ-loop
-loop-again c = (search needs, any-goes _ _ _ _ (c .before .before .before .loop .inv .1) (search needs) (search said))
-
-returns-2 : tie.Need-returns-2 Inv-loop μ-loop
-returns-2 c = any-ends _ _ _ _ (c .before .loop .inv .1) (search needs)
+returns : tie.Need-returns
+returns c = search doubled-is
 
 pub has-twins-spec : {M : Type 1} → statement M
-has-twins-spec =
-    tie.close
-    (tie.spec
-    Inv-loop
-    μ-loop
-    loop-holds
-    is-repeated-requires
-    returns
-    add-i
-    sub-unseen
-    loop-less
-    loop-again
-    returns-2)
+has-twins-spec = tie.close (tie.spec any-clashes-requires returns)

@@ -1,7 +1,7 @@
 -- `is_covering` meets its promise, since it makes the tests of the definition in their order.
+use Rattle.fip_table.specs.Table.{covers-empty, covers-table}
+use Rattle.fip_table.specs.Question.{shared-found}
 use borrow.Author.Needs.{needs}
-use mathlib.Core.Path.{_∙_}
-use Rattle.fip_table.specs.Table.{covers-empty, covers-table, covers-rest}
 use Rattle.fip_table.proofs.is_covering.Statement.{statement}
 use Rattle.fip_table.proofs.is_covering.Tie as tie
 
@@ -20,11 +20,11 @@ table-end-requires c κs = search needs
 returns-2 : tie.Need-returns-2
 returns-2 c = covers-table _ _ _ (search needs) (search needs)
 
-has-shared-requires : tie.Need-has-shared-requires
-has-shared-requires c κs = search needs
+find-requires : tie.Need-find-requires
+find-requires c κs = search needs
 
 returns-3 : tie.Need-returns-3
-returns-3 c = c .has-shared .ensures ∙ covers-rest _ _ _ (search needs) (search needs)
+returns-3 c = shared-found _ _ _ _ (search needs) (search needs) (c .find .ensures)
 
 pub is-covering-spec : {M : Type 1} → statement M
 is-covering-spec =
@@ -35,5 +35,5 @@ is-covering-spec =
     offset-of-requires
     table-end-requires
     returns-2
-    has-shared-requires
+    find-requires
     returns-3)
