@@ -4,7 +4,7 @@ use mathlib.Core.List.{List, [], _∷_}
 use Prim.Native.Nat.{ℕ, _-_}
 use Rattle.identifiers.specs.declared.Parts.{Parts}
 use Rattle.rules.specs.Reasons.{minus}
-use Rattle.registers.specs.Registers.{kept}
+use Rattle.registers.specs.Registers.{saving}
 use Rattle.judgements.specs.Judge.{calledBy}
 use Rattle.judgements.specs.declared.Answer.{Answer}
 use Rattle.judgements.specs.declared.Answer.the-variants.{Version, PowerVersion, Done, On, Off, Pending, Owns, Leads, Count, Silent, No}
@@ -34,4 +34,4 @@ written p (No r) = negative p (minus r) ∷ []
 
 -- the frame's eight numbers, and over them the answer's results
 abbrev pub answeredIn : List ℕ → ℕ → ℕ → List ℕ → Answer → List ℕ
-answeredIn r core caller xs a = kept (kept r core caller xs) core caller (written (calledBy xs) a)
+answeredIn r core caller xs a = saving (saving r core caller xs) core caller (written (calledBy xs) a)

@@ -1,6 +1,6 @@
 // What an answer writes for the caller.
 ghost use mathlib.Core.Path.{_≡_};
-ghost use Rattle.registers.specs.Registers.{kept};
+ghost use Rattle.registers.specs.Registers.{saving};
 ghost use Rattle.rules.specs.Reasons.{minus};
 ghost use Rattle.answers.specs.Answers.{negative, bit, written, answeredIn};
 use identifiers::Identifier;
@@ -29,20 +29,20 @@ fn bit_of(is: bool) -> u64
 
 // Writes the results that an answer lists, from x0 on; the others keep the caller's values.
 fn write_answer(t: &mut Saved, core: u64, world: u64, p: Parts, a: Answer)
-    ensures { λ _. ⌜ now (t .exit) ≡ kept (now (t .entry)) core world (written p a) ⌝ }
+    ensures { λ _. ⌜ now (t .exit) ≡ saving (now (t .entry)) core world (written p a) ⌝ }
 {
     match a {
-        Answer::Version => registers::keep_one(t, core, world, 0x10002),
-        Answer::PowerVersion => registers::keep_one(t, core, world, 0x10001),
-        Answer::Done => registers::keep_one(t, core, world, 0),
-        Answer::On => registers::keep_one(t, core, world, 0),
-        Answer::Off => registers::keep_one(t, core, world, 1),
-        Answer::Pending => registers::keep_one(t, core, world, 2),
-        Answer::Owns(is) => registers::keep_one(t, core, world, bit_of(is)),
-        Answer::Leads { phys, attr } => registers::keep_three(t, core, world, 0, phys, attr),
-        Answer::Count(n) => registers::keep_one(t, core, world, n),
+        Answer::Version => registers::save_one(t, core, world, 0x10002),
+        Answer::PowerVersion => registers::save_one(t, core, world, 0x10001),
+        Answer::Done => registers::save_one(t, core, world, 0),
+        Answer::On => registers::save_one(t, core, world, 0),
+        Answer::Off => registers::save_one(t, core, world, 1),
+        Answer::Pending => registers::save_one(t, core, world, 2),
+        Answer::Owns(is) => registers::save_one(t, core, world, bit_of(is)),
+        Answer::Leads { phys, attr } => registers::save_three(t, core, world, 0, phys, attr),
+        Answer::Count(n) => registers::save_one(t, core, world, n),
         Answer::Silent => {}
-        Answer::No(r) => registers::keep_one(t, core, world, negative_of(p, r)),
+        Answer::No(r) => registers::save_one(t, core, world, negative_of(p, r)),
     }
 }
 
@@ -50,6 +50,6 @@ fn write_answer(t: &mut Saved, core: u64, world: u64, p: Parts, a: Answer)
 pub fn answer_call(t: &mut Saved, core: u64, world: u64, x: &[u64; 8], a: Answer)
     ensures { λ _. ⌜ now (t .exit) ≡ answeredIn (now (t .entry)) core world (now (x .entry)) a ⌝ }
 {
-    registers::keep(t, core, world, x);
+    registers::save(t, core, world, x);
     write_answer(t, core, world, Identifier::of(x[0]).split(), a);
 }

@@ -26,7 +26,7 @@ pub fn affirm(is: bool) -> Judged
 pub fn asked_key(a: Args) -> u32
     ensures { λ r. ⌜ r ≡ asked a ⌝ }
 {
-    Identifier::of(a.x1).matched()
+    Identifier::of(a.x1).key()
 }
 
 // The architecture's own two calls.

@@ -9,12 +9,12 @@ use lib.ListN.{length, getD, drop, length-take, length-drop}
 use lib.Seq.{getD-take, getD-drop}
 use Rattle.rules.specs.Choice.{pick-yes, pick-no, either}
 use Rattle.rules.specs.declared.Reason.{Reason}
-use Rattle.registers.specs.Registers.{Whole, saved, kept, kept-at, kept-past, kept-other}
+use Rattle.registers.specs.Registers.{Whole, saved, saving, saving-at, saving-past, saving-other}
 use Rattle.cores.specs.Power.{turnOf, put, on, isPending, arrived-pending, handed, finished}
-use Rattle.cores.specs.Cores.{WholePowers, WholeTurns, power, powered, turn, turned, power-same, turn-same}
-use Rattle.pages.specs.Sizes.{lastWorld}
+use Rattle.cores.specs.Cores.{WholePowers, WholeTurns, power, withPower, turn, withTurn, power-same, turn-same}
+use Rattle.rules.specs.Sizes.{lastWorld}
 use Rattle.pages.specs.Owners.{WholeOwners, owner}
-use Rattle.mapping.specs.declared.Mapping.{Mapping}
+use Rattle.ranges.specs.declared.Mapping.{Mapping}
 use Rattle.transfers.specs.Kept.{Movable, move-granted, carried-from, carried-inside, carried-outside}
 use Rattle.mapping.specs.Lists.{WholeLists}
 use Rattle.judgements.specs.Names.{secure, normal, realm}
@@ -65,7 +65,7 @@ stepped-by s core xs d e = rw e
 -- A refused call leaves every table but the caller's numbers: the frame's eight, and over them x0 alone, the refusal's number.
 pub refused : (s : State) (core : ℕ) (xs : List ℕ) (r : Reason) → answerIn s core xs ≡ No r
     → after s core xs ≡ state (s .site) (s .ledger) (s .owners)
-    (kept (kept (s .saved) core (callerOf s core) xs) core (callerOf s core) (negative (calledBy xs) (minus r) ∷ []))
+    (saving (saving (s .saved) core (callerOf s core) xs) core (callerOf s core) (negative (calledBy xs) (minus r) ∷ []))
     (s .powers) (s .turns) (s .lists)
 refused s core xs r e = stepped-by s core xs Nothing (grounded (sight s core) xs .quiet r e) ∙ rw e
 
@@ -89,8 +89,8 @@ deed-spares (Map m) s core caller xs c u j n = refl
 deed-spares (Unmap virt size) s core caller xs c u j n = refl
 deed-spares (Start k a x) s core caller xs c u j n = refl
 deed-spares Stop s core caller xs c u j n = refl
-deed-spares (HandOver to) s core caller xs c u j n = kept-other (s .saved) core to xs c u j n
-deed-spares Finish s core caller xs c u j n = kept-other (s .saved) core normal (finishNumbers caller xs) c u j n
+deed-spares (HandOver to) s core caller xs c u j n = saving-other (s .saved) core to xs c u j n
+deed-spares Finish s core caller xs c u j n = saving-other (s .saved) core normal (finishNumbers caller xs) c u j n
 
 -- no deed that has its grounds writes the caller's numbers
 never-own : (v : View) (d : Deed) → Grounds v d → Receives d (v .seen .caller) → ⊥
@@ -143,12 +143,12 @@ module _ (s : State) (core : ℕ) (xs : List ℕ) where
     pub handed-numbers : (j : ℕ) → Whole (s .saved) → core < 8 → length xs ≡ 8 → j < 8 → saved (after s core xs .saved) core to j ≡ getD xs j 0
     handed-numbers j w h l k =
         let t : to < 4 = ⊎-elim (λ (y : to ≡ secure). omega arith) (λ (y : to ≡ realm). omega arith) (hands .1) in
-        rw (saved-is, e) (kept-at (answeredAt s core xs .saved) core to xs j (answered-whole (s .saved) core (callerOf s core) xs (answerIn s core xs) w) h t (omega arith) (omega arith))
+        rw (saved-is, e) (saving-at (answeredAt s core xs .saved) core to xs j (answered-whole (s .saved) core (callerOf s core) xs (answerIn s core xs) w) h t (omega arith) (omega arith))
 
     -- The receiver's other numbers stay.
     pub handed-rest : (j : ℕ) → length xs ≤ j → saved (after s core xs .saved) core to j ≡ saved (s .saved) core to j
     handed-rest j l =
-        rw (saved-is, e) (kept-past (answeredAt s core xs .saved) core to xs j l
+        rw (saved-is, e) (saving-past (answeredAt s core xs .saved) core to xs j l
         ∙ answered-other (s .saved) core (callerOf s core) xs (answerIn s core xs) core to j
         (λ y z. ⊎-elim (λ (y : to ≡ secure). omega (arith, hands .0)) (λ (y : to ≡ realm). omega (arith, hands .0)) (hands .1)))
 
@@ -160,7 +160,7 @@ module _ (s : State) (core : ℕ) (xs : List ℕ) where
     pub finished-numbers : (j : ℕ) → Whole (s .saved) → core < 8 → length xs ≡ 8 → j < returned (callerOf s core) → saved (after s core xs .saved) core normal j ≡ getD xs (1 + j) 0
     finished-numbers j w h l k =
         let n : length (finishNumbers (callerOf s core) xs) ≡ returned (callerOf s core) = simp (length-take, length-drop) (omega arith) in
-        rw (saved-is, e) (kept-at (answeredAt s core xs .saved) core normal (finishNumbers (callerOf s core) xs) j
+        rw (saved-is, e) (saving-at (answeredAt s core xs .saved) core normal (finishNumbers (callerOf s core) xs) j
         (answered-whole (s .saved) core (callerOf s core) xs (answerIn s core xs) w) h (omega arith) (omega arith) (omega arith)
         ∙ getD-take (returned (callerOf s core)) (drop 1 xs) j 0 k ∙ getD-drop 1 xs j 0)
 
@@ -168,7 +168,7 @@ module _ (s : State) (core : ℕ) (xs : List ℕ) where
     pub finished-rest : (j : ℕ) → returned (callerOf s core) ≤ j → saved (after s core xs .saved) core normal j ≡ saved (s .saved) core normal j
     finished-rest j l =
         let n : length (finishNumbers (callerOf s core) xs) ≤ returned (callerOf s core) = simp (length-take, length-drop) (omega arith) in
-        rw (saved-is, e) (kept-past (answeredAt s core xs .saved) core normal (finishNumbers (callerOf s core) xs) j (omega arith)
+        rw (saved-is, e) (saving-past (answeredAt s core xs .saved) core normal (finishNumbers (callerOf s core) xs) j (omega arith)
         ∙ answered-other (s .saved) core (callerOf s core) xs (answerIn s core xs) core normal j
         (λ y z. ⊎-elim (λ (k : callerOf s core ≡ secure). omega arith) (λ (k : callerOf s core ≡ realm). omega arith) (finishes .0)))
 
@@ -246,9 +246,9 @@ seated s a = (state (s .site) (s .ledger) (s .owners) (a .0 .saved) (a .0 .power
 abbrev comeIn : State → ℕ → State
 comeIn s core =
     state (s .site) (s .ledger) (s .owners)
-    (kept (s .saved) core normal (startNumbers (power (s .powers) core)))
-    (powered (s .powers) core (put (power (s .powers) core) on))
-    (turned (s .turns) core (turnOf normal false))
+    (saving (s .saved) core normal (startNumbers (power (s .powers) core)))
+    (withPower (s .powers) core (put (power (s .powers) core) on))
+    (withTurn (s .turns) core (turnOf normal false))
     (s .lists)
 
 module _ (s : State) (core : ℕ) where
@@ -274,14 +274,14 @@ module _ (s : State) (core : ℕ) where
   -- An arrival leaves every number but those of Normal on its core.
   pub arrival-saved : (c u j : ℕ) → (core ≡ c → normal ≡ u → ⊥) → saved (afterArrival s core .saved) c u j ≡ saved (s .saved) c u j
   arrival-saved c u j n =
-      arrival-by (λ (q : State). saved (q .saved) c u j ≡ saved (s .saved) c u j) refl (λ y. kept-other (s .saved) core normal (startNumbers (power (s .powers) core)) c u j n)
+      arrival-by (λ (q : State). saved (q .saved) c u j ≡ saved (s .saved) c u j) refl (λ y. saving-other (s .saved) core normal (startNumbers (power (s .powers) core)) c u j n)
 
   module _ (y : isPending (power (s .powers) core) ≡ true) (h : core < 8) where
     -- A core that arrives finds the context in x0, zero in x1 to x7, and then its start address.
     pub arrived-numbers : (j : ℕ) → Whole (s .saved) → j < 9 → saved (afterArrival s core .saved) core normal j ≡ getD (startNumbers (power (s .powers) core)) j 0
     arrived-numbers j w l =
         arrived-by (λ (q : State). saved (q .saved) core normal j ≡ getD (startNumbers (power (s .powers) core)) j 0) y
-        (kept-at (s .saved) core normal (startNumbers (power (s .powers) core)) j w h (omega arith) l (omega arith))
+        (saving-at (s .saved) core normal (startNumbers (power (s .powers) core)) j w h (omega arith) l (omega arith))
 
     -- It is ON, in Normal, with nothing open.
     pub arrived-power : WholePowers (s .powers) → power (afterArrival s core .powers) core ≡ put (power (s .powers) core) on

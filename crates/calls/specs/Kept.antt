@@ -8,17 +8,17 @@ use native.Mathlib.Omega.{arith}
 use lib.Dec.{eqb, ltb}
 use borrow.Author.Tests.{eqb-true, eqb-false, ltb-true, ltb-false}
 use Rattle.rules.specs.Choice.{either, yes-or-no}
-use Rattle.registers.specs.Registers.{Whole, kept-whole, zeros, zeros-whole}
+use Rattle.registers.specs.Registers.{Whole, saving-whole, zeros, zeros-whole}
 use Rattle.cores.specs.Power.{turnOf, off, pending, on, isOn, isPending}
-use Rattle.cores.specs.Cores.{power, powered, powered-whole, turn, turned, turned-whole, power-other, turn-same, turn-other, firstPowers, firstTurns, first-powers-whole, first-power-other, first-turns-whole, first-turn}
+use Rattle.cores.specs.Cores.{power, withPower, with-power-whole, turn, withTurn, with-turn-whole, power-other, turn-same, turn-other, firstPowers, firstTurns, first-powers-whole, first-power-other, first-turns-whole, first-turn}
 use Rattle.cores.specs.declared.Power.{Power}
 use Rattle.cores.specs.declared.Turn.{Turn}
-use Rattle.pages.specs.Sizes.{lastWorld}
+use Rattle.rules.specs.Sizes.{lastWorld}
 use Rattle.pages.specs.Window.{acceptable}
 use Rattle.pages.specs.Owners.{WholeOwners, owner}
 use Rattle.mapping.specs.Lists.{WholeLists, holding-whole, released-whole, unmapped, unmapped-whole, held, held-unmapped, holding, holding-other, holding-inserts, released-other, released-takes}
 use Rattle.mapping.specs.Sound.{Sound, sound-none, granted-room, granted-formed, granted-keeps, without-keeps}
-use Rattle.mapping.specs.declared.Mapping.{Mapping}
+use Rattle.ranges.specs.declared.Mapping.{Mapping}
 use Rattle.transfers.specs.Transfer.{moveVerdict, carried}
 use Rattle.transfers.specs.Kept.{carried-whole, carried-keeps, carried-worlds}
 use Rattle.transfers.specs.declared.Verdict.the-variants as Moving
@@ -118,20 +118,20 @@ module _ (s : State) (r : Right s) where
       (r .worlds) sound (r .seated) (r .absent)
 
   -- one core's power: what the core runs has to be able to run at it
-  right-power : (k : ℕ) (p : Power) → k < s .site .cores → (Seated (turn (s .turns) k) (power (s .powers) k) → Seated (turn (s .turns) k) (power (powered (s .powers) k p) k))
-      → Right (withTables s (withPowers (tablesOf s) (powered (s .powers) k p)))
+  right-power : (k : ℕ) (p : Power) → k < s .site .cores → (Seated (turn (s .turns) k) (power (s .powers) k) → Seated (turn (s .turns) k) (power (withPower (s .powers) k p) k))
+      → Right (withTables s (withPowers (tablesOf s) (withPower (s .powers) k p)))
   right-power k p exists may =
-      right-with (withPowers (tablesOf s) (powered (s .powers) k p))
-      (record { owners-whole = r .whole .owners-whole; saved-whole = r .whole .saved-whole; powers-whole = powered-whole _ k p (r .whole .powers-whole); turns-whole = r .whole .turns-whole; lists-whole = r .whole .lists-whole })
+      right-with (withPowers (tablesOf s) (withPower (s .powers) k p))
+      (record { owners-whole = r .whole .owners-whole; saved-whole = r .whole .saved-whole; powers-whole = with-power-whole _ k p (r .whole .powers-whole); turns-whole = r .whole .turns-whole; lists-whole = r .whole .lists-whole })
       (r .worlds) (r .sound)
       (λ c h. same-or-other c k (λ e. rw e (may (rw e at (r .seated c h)))) (λ n. rw (power-other (s .powers) k p c n) (r .seated c h)))
       (λ c h. rw (power-other (s .powers) k p c (λ e. omega arith)) (r .absent c h))
 
   -- what one core runs
-  right-turn : (k : ℕ) (t : Turn) → k < 8 → Seated t (power (s .powers) k) → Right (withTables s (withTurns (tablesOf s) (turned (s .turns) k t)))
+  right-turn : (k : ℕ) (t : Turn) → k < 8 → Seated t (power (s .powers) k) → Right (withTables s (withTurns (tablesOf s) (withTurn (s .turns) k t)))
   right-turn k t inside may =
-      right-with (withTurns (tablesOf s) (turned (s .turns) k t))
-      (record { owners-whole = r .whole .owners-whole; saved-whole = r .whole .saved-whole; powers-whole = r .whole .powers-whole; turns-whole = turned-whole _ k t (r .whole .turns-whole); lists-whole = r .whole .lists-whole })
+      right-with (withTurns (tablesOf s) (withTurn (s .turns) k t))
+      (record { owners-whole = r .whole .owners-whole; saved-whole = r .whole .saved-whole; powers-whole = r .whole .powers-whole; turns-whole = with-turn-whole _ k t (r .whole .turns-whole); lists-whole = r .whole .lists-whole })
       (r .worlds) (r .sound)
       (λ c h. same-or-other c k (λ e. rw (e, turn-same (s .turns) k t (r .whole .turns-whole) inside) may) (λ n. rw (turn-other (s .turns) k t c n) (r .seated c h)))
       (r .absent)
@@ -172,8 +172,8 @@ module _ (s : State) (r : Right s) (core : ℕ) (ready : isOn (power (s .powers)
       (λ n. rw (released-other (s .lists) (callerOf s core) virt size world n) (r .sound world)))
   deed-right (Start k a x) g xs = right-power s r k _ (g .exists) (λ t. off-seated _ _ t _ (g .not-on))
   deed-right Stop g xs = right-power s r core _ (on-exists s r core ready) (λ t. home-seated _ _ t _ g)
-  deed-right (HandOver to) g xs = right-turn _ (right-saved s r _ (kept-whole _ core to xs (r .whole .saved-whole))) core _ inside (handed-seated to _ (g .1) ready)
-  deed-right Finish g xs = right-turn _ (right-saved s r _ (kept-whole _ core normal _ (r .whole .saved-whole))) core _ inside (normal-seated _)
+  deed-right (HandOver to) g xs = right-turn _ (right-saved s r _ (saving-whole _ core to xs (r .whole .saved-whole))) core _ inside (handed-seated to _ (g .1) ready)
+  deed-right Finish g xs = right-turn _ (right-saved s r _ (saving-whole _ core normal _ (r .whole .saved-whole))) core _ inside (normal-seated _)
 
 -- ---- the two steps
 module _ (s : State) (r : Right s) (core : ℕ) where
@@ -191,7 +191,7 @@ module _ (s : State) (r : Right s) (core : ℕ) where
       arrival-by s core Right r
       (λ y. let was : power (s .powers) core .state ≡ pending = eqb-true (power (s .powers) core .state) pending y in
       let exists : core < s .site .cores = either (ltb core (s .site .cores)) (ltb-true _ _) (λ n. let a = r .absent core (ltb-false _ _ n) in absurd (omega arith)) in
-      right-turn _ (right-power _ (right-saved s r _ (kept-whole _ core normal _ (r .whole .saved-whole))) core _ exists (λ t. off-seated _ _ t _ (rw was)))
+      right-turn _ (right-power _ (right-saved s r _ (saving-whole _ core normal _ (r .whole .saved-whole))) core _ exists (λ t. off-seated _ _ t _ (rw was)))
       core _ (omega (arith, r .most-cores)) (normal-seated _))
 
 -- ---- the start

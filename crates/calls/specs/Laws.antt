@@ -5,9 +5,9 @@ use mathlib.Core.List.{List}
 use Prim.Native.Nat.{ℕ}
 use borrow.Author.Tests.{not-true, not-false}
 use Rattle.rules.specs.Choice.{pick-yes, pick-no}
-use Rattle.registers.specs.Registers.{kept}
+use Rattle.registers.specs.Registers.{saving}
 use Rattle.cores.specs.Power.{arrived, arrivalOf, isPending, entered, arrived-pending}
-use Rattle.cores.specs.Cores.{power, powered, turn, turned}
+use Rattle.cores.specs.Cores.{power, withPower, turn, withTurn}
 use Rattle.cores.specs.declared.Power.{Power}
 use Rattle.cores.specs.declared.Turn.{Turn}
 use Rattle.cores.specs.declared.Arriving.{Arriving}
@@ -40,15 +40,15 @@ module _ (r p t : List ℕ) (core : ℕ) (x : Power) (y : Arriving) (was : x ≡
       let n : isPending (power p core) ≡ false = not-true (isPending (power p core)) (rw (is, was) at e) in
       sym (pick-no _ _ _ n)
 
-  pub comes : (r′ p′ t′ : List ℕ) (z u : Turn) → not (y .came) ≡ false → p′ ≡ powered p core (y .power) → z ≡ turn t core → u ≡ entered z → t′ ≡ turned t core u
-      → r′ ≡ kept r core normal (startNumbers (y .power))
+  pub comes : (r′ p′ t′ : List ℕ) (z u : Turn) → not (y .came) ≡ false → p′ ≡ withPower p core (y .power) → z ≡ turn t core → u ≡ entered z → t′ ≡ withTurn t core u
+      → r′ ≡ saving r core normal (startNumbers (y .power))
       → (seat r′ p′ t′, true) ≡ arrivedIn (seat r p t) core
   unfolding arrivedIn
   comes r′ p′ t′ z u e ep ez eu et er =
       let n : isPending (power p core) ≡ true = not-false (isPending (power p core)) (rw (is, was) at e) in
       let a : y .power ≡ arrived (power p core) = rw (is, was) in
       let b : startNumbers (y .power) ≡ startNumbers (power p core) = rw (a, arrived-pending (power p core) n) in
-      let f : p′ ≡ powered p core (arrived (power p core)) = ep ∙ ap (powered p core) a in
+      let f : p′ ≡ withPower p core (arrived (power p core)) = ep ∙ ap (withPower p core) a in
       sym (pick-yes _ _ _ n ∙ rw (er, f, et, eu, b))
 
 pub ruleset arrivals = (stays-away, comes)

@@ -3,9 +3,9 @@ use mathlib.Core.Bool.{Bool, true, false}
 use mathlib.Core.List.{List, [], _∷_}
 use Prim.Native.Nat.{ℕ}
 use Rattle.rules.specs.Choice.{pick}
-use Rattle.registers.specs.Registers.{kept}
+use Rattle.registers.specs.Registers.{saving}
 use Rattle.cores.specs.Power.{arrived, isPending, entered}
-use Rattle.cores.specs.Cores.{power, powered, turn, turned}
+use Rattle.cores.specs.Cores.{power, withPower, turn, withTurn}
 use Rattle.cores.specs.declared.Power.{Power}
 use Rattle.mapping.specs.Lists.{held}
 use Rattle.judgements.specs.Names.{normal}
@@ -91,9 +91,9 @@ startNumbers p = p .context ∷ 0 ∷ 0 ∷ 0 ∷ 0 ∷ 0 ∷ 0 ∷ 0 ∷ p .sta
 unfoldable pub arrivedIn : Seat → ℕ → Seat × Bool
 arrivedIn s core =
     pick (isPending (power (s .powers) core)) (
-      seat (kept (s .saved) core normal (startNumbers (power (s .powers) core)))
-          (powered (s .powers) core (arrived (power (s .powers) core)))
-          (turned (s .turns) core (entered (turn (s .turns) core))),
+      seat (saving (s .saved) core normal (startNumbers (power (s .powers) core)))
+          (withPower (s .powers) core (arrived (power (s .powers) core)))
+          (withTurn (s .turns) core (entered (turn (s .turns) core))),
       true,
     )
     (s, false)

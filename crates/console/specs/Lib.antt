@@ -1,3 +1,1 @@
-pub mod Goes
 pub mod Loop
-pub mod Last

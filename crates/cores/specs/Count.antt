@@ -1,9 +1,8 @@
 -- How many of n numbers from a on pass a test, and the mask that has a one for each of them that does, the lowest number lowest.
 use mathlib.Core.Path.{_≡_, refl, ap, _∙_}
 use mathlib.Core.Bool.{Bool, true, false}
-use mathlib.Core.Logic.{⊎-elim}
 use Prim.Native.Nat.{ℕ, zero, suc, _+_, _*_, _/_, _%_, _^_, _≤_, _<_}
-use native.Mathlib.Nat.{eq-or-lt-of-le, pow-suc}
+use native.Mathlib.Nat.{pow-suc}
 use native.Mathlib.Omega.{arith}
 use lib.Dec.{eqb}
 use lib.Count.{ones, ones-step}
@@ -65,29 +64,3 @@ module _ (p : ℕ → Bool) where
   unfolding count
   count-le a zero = omega arith
   count-le a (suc n) = omega (arith, bit-le (p a), count-le (suc a) n)
-
-  pub count-more : (a n : ℕ) → count p a (suc n) ≡ bit (p a) + count p (suc a) n
-  unfolding count
-  count-more a n = refl
-
-  pub count-none : (a n : ℕ) → ((k : ℕ) → a ≤ k → k < a + n → p k ≡ false) → count p a n ≡ 0
-  unfolding count bit
-  count-none a zero f = refl
-  count-none a (suc n) f =
-      rw (f a (omega arith) (omega arith), count-none (suc a) n (λ k h l. f k (omega arith) (omega arith)))
-
--- ---- two tests: alike on the range, or but for one number of it
-module _ (p q : ℕ → Bool) where
-  pub count-same : (a n : ℕ) → ((k : ℕ) → a ≤ k → k < a + n → p k ≡ q k) → count p a n ≡ count q a n
-  unfolding count
-  count-same a zero f = refl
-  count-same a (suc n) f =
-      rw (f a (omega arith) (omega arith), count-same (suc a) n (λ k h l. f k (omega arith) (omega arith)))
-
-  pub count-but-one : (a n i : ℕ) → a ≤ i → i < a + n → ((k : ℕ) → (k ≡ i → ⊥) → p k ≡ q k) → count p a n + bit (q i) ≡ count q a n + bit (p i)
-  unfolding count
-  count-but-one a zero i h l f = absurd (omega arith)
-  count-but-one a (suc n) i h l f =
-      ⊎-elim (λ (z : a ≡ i). rw (← z) (omega (arith, count-same (suc a) n (λ k m _. f k (λ e. omega arith)))))
-      (λ (z : a < i). omega (arith, ap bit (f a (λ e. omega arith)), count-but-one (suc a) n i (omega arith) (omega arith) f))
-      (eq-or-lt-of-le h)

@@ -1,10 +1,10 @@
 -- One core's power, and its turn: which world runs there, and whether a hand-over is open. Records by value, with no trace of the tables.
-use mathlib.Core.Path.{_≡_, refl}
+use mathlib.Core.Path.{_≡_}
 use mathlib.Core.Bool.{Bool, true, false, _||_}
 use Prim.Native.Nat.{ℕ}
 use lib.Dec.{eqb}
-use borrow.Author.Tests.{eqb-true}
-use Rattle.rules.specs.Choice.{pick, pick-yes, pick-no, first-or, second-or, neither}
+use Rattle.rules.specs.Sizes.{normal}
+use Rattle.rules.specs.Choice.{pick, pick-yes, pick-no, neither}
 use Rattle.cores.specs.declared.Power.{Power}
 use Rattle.cores.specs.declared.Turn.{Turn}
 use Rattle.cores.specs.declared.Arriving.{Arriving}
@@ -18,10 +18,6 @@ pending = 1
 
 abbrev pub on : ℕ
 on = 2
-
--- the world in which a core starts, arrives and resumes
-abbrev pub normal : ℕ
-normal = 2
 
 abbrev pub powerOf : ℕ → ℕ → ℕ → Power
 powerOf state start context = record { state = state; start = start; context = context }
@@ -71,53 +67,14 @@ entered r = finished r
 
 -- ---- the steps by their outcomes
 module _ (p : Power) where
-  -- no core is both ON and pending
-  pub on-not-pending : isOn p ≡ true → isPending p ≡ false
-  unfolding isOn isPending
-  on-not-pending e = rw (eqb-true (p .state) on e)
-
-  pub pending-not-on : isPending p ≡ true → isOn p ≡ false
-  unfolding isOn isPending
-  pending-not-on e = rw (eqb-true (p .state) pending e)
-
   pub started-off : (start context : ℕ) → isOn p ≡ false → isPending p ≡ false → started p start context ≡ powerOf pending start context
   unfolding started
   started-off start context a b = pick-no _ _ _ (neither _ _ a b)
-
-  pub started-on : (start context : ℕ) → isOn p ≡ true → started p start context ≡ p
-  unfolding started
-  started-on start context e = pick-yes _ _ _ (first-or _ _ e)
-
-  pub started-pending : (start context : ℕ) → isPending p ≡ true → started p start context ≡ p
-  unfolding started
-  started-pending start context e = pick-yes _ _ (powerOf pending start context) (second-or (isOn p) (isPending p) e)
 
   pub stopped-on : isOn p ≡ true → stopped p ≡ put p off
   unfolding stopped
   stopped-on e = pick-yes _ _ _ e
 
-  pub stopped-else : isOn p ≡ false → stopped p ≡ p
-  unfolding stopped
-  stopped-else e = pick-no _ _ _ e
-
   pub arrived-pending : isPending p ≡ true → arrived p ≡ put p on
   unfolding arrived
   arrived-pending e = pick-yes _ _ _ e
-
-  pub arrived-else : isPending p ≡ false → arrived p ≡ p
-  unfolding arrived
-  arrived-else e = pick-no _ _ _ e
-
--- ---- what a record in a known state is
-module _ (start context : ℕ) where
-  pub off-is : (isOn (powerOf off start context) ≡ false) × (isPending (powerOf off start context) ≡ false)
-  unfolding isOn isPending
-  off-is = (refl, refl)
-
-  pub pending-is : (isOn (powerOf pending start context) ≡ false) × (isPending (powerOf pending start context) ≡ true)
-  unfolding isOn isPending
-  pending-is = (refl, refl)
-
-  pub on-is : (isOn (powerOf on start context) ≡ true) × (isPending (powerOf on start context) ≡ false)
-  unfolding isOn isPending
-  on-is = (refl, refl)

@@ -3,7 +3,10 @@ ghost use mathlib.Core.Path.{_≡_};
 ghost use Prim.Native.Nat.{_≤_};
 ghost use Rattle.cores.specs.Power.{isOn, isPending, put, started, stopped, arrived, arrivalOf, handed, finished, entered};
 ghost use Rattle.cores.specs.Count.{bit};
-ghost use Rattle.cores.specs.Cores.{power, powered, firstPowers, turn, turned, firstTurns, onCount, onMask};
+ghost use Rattle.cores.specs.Cores.{power, withPower, firstPowers, turn, withTurn, firstTurns, onCount, onMask};
+use rules::MOST_CORES;
+use rules::NORMAL;
+use rules::ROOT;
 
 // One core's power. The start address and the context are those of the call that made it pending.
 pub struct Power {
@@ -114,8 +117,6 @@ pub struct Turn {
 }
 
 impl Turn {
-    pub const NORMAL: u64 = 2;
-
     // A hand-over: the receiver runs, until the finish.
     pub fn handed(self, to: u64) -> Turn
         ensures { λ r. ⌜ r ≡ handed self to ⌝ }
@@ -131,7 +132,7 @@ impl Turn {
         ensures { λ r. ⌜ r ≡ finished self ⌝ }
     {
         Turn {
-            world: Turn::NORMAL,
+            world: NORMAL,
             is_open: false,
         }
     }
@@ -145,18 +146,16 @@ impl Turn {
 }
 
 // State, start address and context of each of the eight cores.
-pub type Powers = [u64; 24];
+pub type Powers = [u64; 3 * MOST_CORES as usize];
 
 // Running world of each of the eight cores, and 1 where a hand-over is open.
-pub type Turns = [u64; 16];
-
-const CORES: u64 = 8;
+pub type Turns = [u64; 2 * MOST_CORES as usize];
 
 // At the start core 0 is ON and the others are OFF.
 pub fn fresh_powers() -> Powers
     ensures { λ r. ⌜ r ≡ firstPowers ⌝ }
 {
-    let mut t = [0u64; 24];
+    let mut t = [0; 3 * MOST_CORES as usize];
     t[0] = Power::ON;
     t
 }
@@ -165,7 +164,7 @@ pub fn fresh_powers() -> Powers
 pub fn fresh_turns() -> Turns
     ensures { λ r. ⌜ r ≡ firstTurns ⌝ }
 {
-    let n = Turn::NORMAL;
+    let n = NORMAL;
     [n, 0, n, 0, n, 0, n, 0, n, 0, n, 0, n, 0, n, 0]
 }
 
@@ -173,7 +172,7 @@ pub fn fresh_turns() -> Turns
 pub fn power_of(t: &Powers, core: u64) -> Power
     ensures { λ r. ⌜ r ≡ power (now (t .entry)) core ⌝ }
 {
-    if CORES <= core {
+    if MOST_CORES <= core {
         return Power {
             state: Power::OFF,
             start: 0,
@@ -190,9 +189,9 @@ pub fn power_of(t: &Powers, core: u64) -> Power
 
 // The power of a core is now this, if there is such a core.
 pub fn set_power(t: &mut Powers, core: u64, p: Power)
-    ensures { λ _. ⌜ now (t .exit) ≡ powered (now (t .entry)) core p ⌝ }
+    ensures { λ _. ⌜ now (t .exit) ≡ withPower (now (t .entry)) core p ⌝ }
 {
-    if CORES <= core {
+    if MOST_CORES <= core {
         return;
     }
     let at = 3 * core as usize;
@@ -205,9 +204,9 @@ pub fn set_power(t: &mut Powers, core: u64, p: Power)
 pub fn turn_of(t: &Turns, core: u64) -> Turn
     ensures { λ r. ⌜ r ≡ turn (now (t .entry)) core ⌝ }
 {
-    if CORES <= core {
+    if MOST_CORES <= core {
         return Turn {
-            world: 0,
+            world: ROOT,
             is_open: false,
         };
     }
@@ -220,9 +219,9 @@ pub fn turn_of(t: &Turns, core: u64) -> Turn
 
 // The turn of a core is now this, if there is such a core.
 pub fn set_turn(t: &mut Turns, core: u64, r: Turn)
-    ensures { λ _. ⌜ now (t .exit) ≡ turned (now (t .entry)) core r ⌝ }
+    ensures { λ _. ⌜ now (t .exit) ≡ withTurn (now (t .entry)) core r ⌝ }
 {
-    if CORES <= core {
+    if MOST_CORES <= core {
         return;
     }
     let at = 2 * core as usize;
@@ -249,7 +248,7 @@ fn on_mask(t: &Powers) -> u32
     ensures { λ r. ⌜ r ≡ onMask (now (t .entry)) ⌝ }
 {
     let mut mask: u32 = 0;
-    let mut core: u64 = CORES;
+    let mut core = MOST_CORES;
     while 0 < core {
         core -= 1;
         mask = on_digit(t, core) + 2 * mask;

@@ -2,9 +2,9 @@
 use mathlib.Core.List.{List}
 use Prim.Native.Nat.{ℕ}
 use lib.ListN.{take, drop}
-use Rattle.registers.specs.Registers.{kept}
+use Rattle.registers.specs.Registers.{saving}
 use Rattle.cores.specs.Power.{started, stopped, handed, finished}
-use Rattle.cores.specs.Cores.{power, powered, turn, turned}
+use Rattle.cores.specs.Cores.{power, withPower, turn, withTurn}
 use Rattle.pages.specs.declared.Window.{Window}
 use Rattle.mapping.specs.Lists.{holding, released}
 use Rattle.transfers.specs.Transfer.{carried}
@@ -41,16 +41,16 @@ withLists s m = tables (s .owners) (s .saved) (s .powers) (s .turns) m
 
 -- ---- what a deed makes of one core's record, in its table
 abbrev pub startedIn : List ℕ → ℕ → ℕ → ℕ → List ℕ
-startedIn p core address context = powered p core (started (power p core) address context)
+startedIn p core address context = withPower p core (started (power p core) address context)
 
 abbrev pub stoppedIn : List ℕ → ℕ → List ℕ
-stoppedIn p core = powered p core (stopped (power p core))
+stoppedIn p core = withPower p core (stopped (power p core))
 
 abbrev pub handedIn : List ℕ → ℕ → ℕ → List ℕ
-handedIn t core to = turned t core (handed (turn t core) to)
+handedIn t core to = withTurn t core (handed (turn t core) to)
 
 abbrev pub finishedIn : List ℕ → ℕ → List ℕ
-finishedIn t core = turned t core (finished (turn t core))
+finishedIn t core = withTurn t core (finished (turn t core))
 
 -- how many numbers a finish by this world returns to Normal: four, whichever it is
 abbrev pub returned : ℕ → ℕ
@@ -74,6 +74,6 @@ carriedOut (Start target address context) w core caller xs s = withPowers s (sta
 -- the calling core is OFF
 carriedOut Stop w core caller xs s = withPowers s (stoppedIn (s .powers) core)
 -- the receiver's x0 to x7 are the caller's, and it runs
-carriedOut (HandOver to) w core caller xs s = withTurns (withSaved s (kept (s .saved) core to xs)) (handedIn (s .turns) core to)
+carriedOut (HandOver to) w core caller xs s = withTurns (withSaved s (saving (s .saved) core to xs)) (handedIn (s .turns) core to)
 -- Normal's numbers from x0 on are the finisher's from x1 on, and Normal runs
-carriedOut Finish w core caller xs s = withTurns (withSaved s (kept (s .saved) core normal (finishNumbers caller xs))) (finishedIn (s .turns) core)
+carriedOut Finish w core caller xs s = withTurns (withSaved s (saving (s .saved) core normal (finishNumbers caller xs))) (finishedIn (s .turns) core)

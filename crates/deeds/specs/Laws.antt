@@ -2,14 +2,14 @@
 use mathlib.Core.Path.{_≡_}
 use mathlib.Core.List.{List}
 use Prim.Native.Nat.{ℕ}
-use Rattle.registers.specs.Registers.{kept}
+use Rattle.registers.specs.Registers.{saving}
 use Rattle.cores.specs.Power.{started, stopped, handed, finished}
-use Rattle.cores.specs.Cores.{power, powered, turn, turned}
+use Rattle.cores.specs.Cores.{power, withPower, turn, withTurn}
 use Rattle.cores.specs.declared.Power.{Power}
 use Rattle.cores.specs.declared.Turn.{Turn}
 use Rattle.pages.specs.declared.Window.{Window}
 use Rattle.mapping.specs.Lists.{holding, released}
-use Rattle.mapping.specs.declared.Mapping.{Mapping}
+use Rattle.ranges.specs.declared.Mapping.{Mapping}
 use Rattle.transfers.specs.Transfer.{carried}
 use Rattle.judgements.specs.Names.{normal}
 use Rattle.judgements.specs.declared.Deed.{Deed}
@@ -18,16 +18,16 @@ use Rattle.deeds.specs.Deeds.{tables, startedIn, stoppedIn, handedIn, fi
 
 -- what is read of one core, changed and stored is changed in its place
 module _ (t t′ : List ℕ) (core : ℕ) where
-  pub starts : (a x : ℕ) (p q : Power) → p ≡ power t core → q ≡ started p a x → t′ ≡ powered t core q → t′ ≡ startedIn t core a x
+  pub starts : (a x : ℕ) (p q : Power) → p ≡ power t core → q ≡ started p a x → t′ ≡ withPower t core q → t′ ≡ startedIn t core a x
   starts a x p q e f h = rw (← e, ← f) h
 
-  pub stops : (p q : Power) → p ≡ power t core → q ≡ stopped p → t′ ≡ powered t core q → t′ ≡ stoppedIn t core
+  pub stops : (p q : Power) → p ≡ power t core → q ≡ stopped p → t′ ≡ withPower t core q → t′ ≡ stoppedIn t core
   stops p q e f h = rw (← e, ← f) h
 
-  pub hands : (to : ℕ) (p q : Turn) → p ≡ turn t core → q ≡ handed p to → t′ ≡ turned t core q → t′ ≡ handedIn t core to
+  pub hands : (to : ℕ) (p q : Turn) → p ≡ turn t core → q ≡ handed p to → t′ ≡ withTurn t core q → t′ ≡ handedIn t core to
   hands to p q e f h = rw (← f) h
 
-  pub finishes : (p q : Turn) → p ≡ turn t core → q ≡ finished p → t′ ≡ turned t core q → t′ ≡ finishedIn t core
+  pub finishes : (p q : Turn) → p ≡ turn t core → q ≡ finished p → t′ ≡ withTurn t core q → t′ ≡ finishedIn t core
   finishes p q e f h = rw (← f) h
 
 pub ruleset changes = (starts, stops, hands, finishes)
@@ -54,11 +54,11 @@ module _ (d : Deed) (w : Window) (o r p t m : List ℕ) (core caller : ℕ) (xs 
   pub by-stop : (p′ : List ℕ) → d ≡ Stop → p′ ≡ stoppedIn p core → tables o r p′ t m ≡ carriedOut d w core caller xs (tables o r p t m)
   by-stop p′ e h = rw (e, h)
 
-  pub by-hand-over : (r′ t′ : List ℕ) (to : ℕ) → d ≡ HandOver to → r′ ≡ kept r core to xs → t′ ≡ handedIn t core to
+  pub by-hand-over : (r′ t′ : List ℕ) (to : ℕ) → d ≡ HandOver to → r′ ≡ saving r core to xs → t′ ≡ handedIn t core to
       → tables o r′ p t′ m ≡ carriedOut d w core caller xs (tables o r p t m)
   by-hand-over r′ t′ to e h k = rw (e, h, k)
 
-  pub by-finish : (r′ t′ : List ℕ) → d ≡ Finish → r′ ≡ kept r core normal (finishNumbers caller xs) → t′ ≡ finishedIn t core
+  pub by-finish : (r′ t′ : List ℕ) → d ≡ Finish → r′ ≡ saving r core normal (finishNumbers caller xs) → t′ ≡ finishedIn t core
       → tables o r′ p t′ m ≡ carriedOut d w core caller xs (tables o r p t m)
   by-finish r′ t′ e h k = rw (e, h, k)
 

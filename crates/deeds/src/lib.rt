@@ -1,6 +1,6 @@
 // What each deed does.
 ghost use mathlib.Core.Path.{_≡_};
-ghost use Rattle.registers.specs.Registers.{kept};
+ghost use Rattle.registers.specs.Registers.{saving};
 ghost use Rattle.judgements.specs.Names.{normal};
 ghost use Rattle.deeds.specs.Deeds.{tables, startedIn, stoppedIn, handedIn, finishedIn, finishNumbers, carriedOut};
 use cores::Powers;
@@ -46,10 +46,10 @@ fn finish(t: &mut Turns, core: u64)
 
 // Normal gets the finisher's x1 to x4 as its x0 to x3.
 fn give_back(t: &mut Saved, core: u64, caller: u64, x: &[u64; 8])
-    ensures { λ _. ⌜ now (t .exit) ≡ kept (now (t .entry)) core normal (finishNumbers caller (now (x .entry))) ⌝ }
+    ensures { λ _. ⌜ now (t .exit) ≡ saving (now (t .entry)) core normal (finishNumbers caller (now (x .entry))) ⌝ }
 {
     let s: &[u64] = x;
-    registers::keep(t, core, names::NORMAL, &s[1..5]);
+    registers::save(t, core, names::NORMAL, &s[1..5]);
 }
 
 // Carries a deed out for the world that called, with its eight numbers.
@@ -79,7 +79,7 @@ pub fn do_deed(
         } => start(powers, target, address, context),
         Deed::Stop => stop(powers, core),
         Deed::HandOver(to) => {
-            registers::keep(saved, core, to, x);
+            registers::save(saved, core, to, x);
             hand_over(turns, core, to);
         }
         Deed::Finish => {

@@ -3,7 +3,7 @@ use libc::STDERR_FILENO;
 use libc::STDOUT_FILENO;
 
 // One byte more than a package has at most, so that a longer file is seen to be one.
-const SPACE: usize = entries::MOST + 1;
+const SPACE: usize = fip_entries::MOST_BYTES + 1;
 
 // A line on standard error.
 fn say(line: &[u8]) {
@@ -19,11 +19,11 @@ fn give(bytes: &[u8]) {
 // The number of a refusal, and the rule that was broken.
 fn refuse(status: u64) {
     match status {
-        entries::LENGTH => say(b"81: under 16 or over 65536 bytes\n"),
-        entries::HEADER => say(b"82: another name than aa640001, or serial number 0\n"),
-        entries::TABLE => say(b"83: no whole end entry after at most 64 entries\n"),
-        entries::TWICE => say(b"84: an identifier stands twice\n"),
-        entries::PLACE => say(
+        fip_entries::WRONG_LENGTH => say(b"81: under 16 or over 65536 bytes\n"),
+        fip_entries::WRONG_HEADER => say(b"82: another name than aa640001, or serial number 0\n"),
+        fip_entries::WRONG_TABLE => say(b"83: no whole end entry after at most 64 entries\n"),
+        fip_entries::SAME_IDENTIFIERS => say(b"84: an identifier stands twice\n"),
+        fip_entries::WRONG_PLACE => say(
             b"85: an image outside the package, or over the table or another image\n",
         ),
         _ => say(b"86: no image has this identifier, or it is all zero\n"),
@@ -31,23 +31,23 @@ fn refuse(status: u64) {
 }
 
 fn list(pack: &[u8]) {
-    let status = unpacking::judge(pack);
-    if status != entries::ACCEPTED {
+    let status = fip_read::judge(pack);
+    if status != fip_entries::ACCEPTED {
         refuse(status);
         return;
     }
-    let mut lines = [0u8; listing::LIST];
-    let n = listing::put_list(&mut lines, unpacking::table(pack));
+    let mut lines = [0u8; fip_text::LIST];
+    let n = fip_text::put_list(&mut lines, fip_read::table(pack));
     give(&lines[..n]);
 }
 
 fn show(pack: &[u8], id: &[u8; 16]) {
-    let status = unpacking::status(pack, id);
-    if status != entries::ACCEPTED {
+    let status = fip_read::status(pack, id);
+    if status != fip_entries::ACCEPTED {
         refuse(status);
         return;
     }
-    give(unpacking::find(pack, id));
+    give(fip_read::find(pack, id));
 }
 
 // Whether n bytes are all of the file, or too many for a package: after a read that failed the end is not reached.
@@ -60,7 +60,7 @@ fn main() {
     let words = os::arg_count();
     let mut word = [0u8; 36];
     let w = os::arg(2, &mut word);
-    let asked = listing::identifier(&word[..w]);
+    let asked = fip_text::identifier(&word[..w]);
     let is_list = words == 2;
     let is_image = words == 3 && asked.given;
     if !is_list && !is_image {

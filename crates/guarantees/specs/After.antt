@@ -15,15 +15,17 @@ use Rattle.cores.specs.Cores.{power, turn, firstPowers, firstTurns, first-power
 use Rattle.cores.specs.declared.Power.{Power}
 use Rattle.pages.specs.Owners.{owner, unowned-owner}
 use Rattle.mapping.specs.Lists.{held, held-unmapped}
-use Rattle.mapping.specs.Ranges.{meet, meet-if, within-low, within-high}
+use Rattle.ranges.specs.Ranges.{meet, meet-if, within-low, within-high}
 use Rattle.mapping.specs.Mapping.{holds, clashes, clash, anyOf, firstOf, deciding, leadOf}
 use Rattle.mapping.specs.Entries.{Apart}
 use Rattle.mapping.specs.Sound.{Sound, covers, sound-none}
 use Rattle.mapping.specs.Once.{coverings, covered-few, one-covers, lead-exact}
-use Rattle.mapping.specs.declared.Mapping.{Mapping}
+use Rattle.ranges.specs.declared.Mapping.{Mapping}
 use Rattle.mapping.specs.declared.Lead.the-variants.{To}
 use Rattle.judgements.specs.Grounds.{Calls}
 use Rattle.calls.specs.Kept.{Right}
+use Rattle.setup.specs.Table.{ready, ended, cores}
+use Rattle.calling.specs.Calling.{siteOf}
 use Rattle.frames.specs.Frames.{Machine, first, stateOf}
 use Rattle.frames.specs.Stays.{site-stays, settled}
 use Rattle.guarantees.specs.Runs.{Event, Events, next, ran, replies, replies-count, always}
@@ -59,8 +61,8 @@ module _ (x : ℕ) where
 -- ---- what a fit machine is, set up or not
 module _ (m : Machine) (fit : Fit m) where
   -- what is so of a right state, and of the first machine
-  by-time : {P : Type 0} → (m .setup .ready ≡ true → Right (stateOf m) → P) → (m ≡ first → P) → P
-  by-time y n = either (m .setup .ready) (λ e. y e (fit .right e)) (λ e. n (fit .idle e))
+  by-time : {P : Type 0} → (ready (m .setup) ≡ true → Right (stateOf m) → P) → (m ≡ first → P) → P
+  by-time y n = either (ready (m .setup)) (λ e. y e (fit .right e)) (λ e. n (fit .idle e))
 
   fit-sound : (world : ℕ) → Sound (window m) (m .owners) world (mapped m world)
   fit-sound world = by-time (λ e r. r .sound world) (λ e. rw (e, held-unmapped world) (sound-none _ _ world))
@@ -78,7 +80,7 @@ module _ (m : Machine) (fit : Fit m) where
       by-time (λ e r. lead-exact (window m) (r .window) (m .owners) world (mapped m world) (r .sound world) x n d)
       (λ e. let z : none ≡ some n = (rw (e, held-unmapped world) at d) in let y : _≡_ {A = ℕ} 0 1 = cc in absurd (omega arith))
 
-  fit-absent : (core : ℕ) → m .setup .ready ≡ true → m .setup .site .cores ≤ core → (isOn (power (m .powers) core) ≡ false) × (isPending (power (m .powers) core) ≡ false)
+  fit-absent : (core : ℕ) → ready (m .setup) ≡ true → cores (m .setup) ≤ core → (isOn (power (m .powers) core) ≡ false) × (isPending (power (m .powers) core) ≡ false)
   unfolding isOn isPending
   fit-absent core e h = let a = fit .right e .absent core h in (rw a, rw a)
 
@@ -113,13 +115,13 @@ guaranteed-after m fit run =
       runs = fit-runs last f;
       absent = fit-absent last f;
       idle = f .idle;
-      site-stays = λ e. always (λ (q : Machine). (q .setup .ready ≡ true) × (q .setup .site ≡ m .setup .site)) site-next m run (e, refl);
-      ledger-stays = λ e. always (λ (q : Machine). (q .setup .ended ≡ true) × (q .ledger ≡ m .ledger)) ledger-next m run (e, refl);
+      site-stays = λ e. always (λ (q : Machine). (ready (q .setup) ≡ true) × (siteOf (q .setup) ≡ siteOf (m .setup))) site-next m run (e, refl);
+      ledger-stays = λ e. always (λ (q : Machine). (ended (q .setup) ≡ true) × (q .ledger ≡ m .ledger)) ledger-next m run (e, refl);
       answered = replies-count m run;
     }
   where
-    site-next : (q : Machine) (e : Event) → (q .setup .ready ≡ true) × (q .setup .site ≡ m .setup .site) → (next q e .setup .ready ≡ true) × (next q e .setup .site ≡ m .setup .site)
+    site-next : (q : Machine) (e : Event) → (ready (q .setup) ≡ true) × (siteOf (q .setup) ≡ siteOf (m .setup)) → (ready (next q e .setup) ≡ true) × (siteOf (next q e .setup) ≡ siteOf (m .setup))
     site-next q e h = let s = site-stays q (e .0) (e .1) (h .0) in (s .0, s .1 ∙ h .1)
 
-    ledger-next : (q : Machine) (e : Event) → (q .setup .ended ≡ true) × (q .ledger ≡ m .ledger) → (next q e .setup .ended ≡ true) × (next q e .ledger ≡ m .ledger)
+    ledger-next : (q : Machine) (e : Event) → (ended (q .setup) ≡ true) × (q .ledger ≡ m .ledger) → (ended (next q e .setup) ≡ true) × (next q e .ledger ≡ m .ledger)
     ledger-next q e h = let s = settled q (e .0) (e .1) (h .0) in (s .ended, s .ledger ∙ h .1)

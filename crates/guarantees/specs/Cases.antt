@@ -12,11 +12,11 @@ use Rattle.rules.specs.Choice.{pick, either, first-or, second-or, neither, righ
 use Rattle.rules.specs.Tests.{sieve}
 use Rattle.rules.specs.declared.Reason.{Reason}
 use Rattle.rules.specs.declared.Reason.the-variants as Reason
-use Rattle.identifiers.specs.Identifier.{low32, identifierOf, parts, matched, admitted, argument}
+use Rattle.identifiers.specs.Identifier.{low32, identifierOf, parts, keyOf, admitted, argument}
 use Rattle.identifiers.specs.declared.Parts.{Parts}
 use Rattle.ledger.specs.Ledger.{handler}
 use Rattle.ledger.specs.declared.Lookup.the-variants.{Handler}
-use Rattle.registers.specs.Registers.{kept}
+use Rattle.registers.specs.Registers.{saving}
 use Rattle.cores.specs.Power.{isOn}
 use Rattle.cores.specs.Cores.{power}
 use Rattle.pages.specs.Window.{acceptable, accepted, page-at, InPage, runOf, run-no, run-past}
@@ -25,7 +25,7 @@ use Rattle.pages.specs.declared.Window.{Window}
 use Rattle.pages.specs.declared.Place.the-variants.{Outside}
 use Rattle.mapping.specs.Mapping.{unaligned, malformed, mapVerdict, hasExactly, anyOf, exact}
 use Rattle.mapping.specs.Lists.{held, held-some}
-use Rattle.mapping.specs.declared.Mapping.{Mapping}
+use Rattle.ranges.specs.declared.Mapping.{Mapping}
 use Rattle.transfers.specs.Transfer.{moveTests, moveVerdict}
 use Rattle.judgements.specs.Names.{secure, normal, realm}
 use Rattle.judgements.specs.Judge.{View, denied, granted, oneOf, callers, calledBy, argsOf, byHandler, found, judgedBy, judged, board, wanted, mapping, unmapping, standard, starting, stating, goodStart, ownedAt, realms, granuleIn, granuleOut, moving}
@@ -73,7 +73,7 @@ pub record Answered (c : Call) (n : ℕ) : Type 0 where
   pub results : resultsIn (c .before) (c .core) (c .numbers) ≡ n ∷ []
   pub next : after (c .before) (c .core) (c .numbers)
       ≡ state (c .before .site) (c .before .ledger) (c .before .owners)
-      (kept (kept (c .before .saved) (c .core) (world c) (c .numbers)) (c .core) (world c) (n ∷ []))
+      (saving (saving (c .before .saved) (c .core) (world c) (c .numbers)) (c .core) (world c) (n ∷ []))
       (c .before .powers) (c .before .turns) (c .before .lists)
 
 -- ---- the table
@@ -183,7 +183,7 @@ among n (k ∷ ks) (inr m) = second-or (eqb n k) _ (among n ks m)
 -- a call that reaches its handler from a world that may call is judged there
 module _ (c : Call) {id h : ℕ} (e : identifier c ≡ id) (to : Reaches c h) (may : Among (world c) anyWorld) where
   reached : admitted (parts (record { 0 = id })) ≡ true → judgement c ≡ byHandler (view c) (args c) id h
-  unfolding judged judgedBy identifierOf matched sieve pick found
+  unfolding judged judgedBy identifierOf keyOf sieve pick found
   reached t = rw (to, e, t, among (world c) anyWorld may)
 
   settled : (a : Answer) {n : ℕ} → written (calledBy (c .numbers)) a ≡ n ∷ [] → admitted (parts (record { 0 = id })) ≡ true

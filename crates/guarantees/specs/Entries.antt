@@ -13,21 +13,22 @@ use Rattle.ledger.specs.Ledger.{empty, handler, entered, isAccepted}
 use Rattle.ledger.specs.Only.{only}
 use Rattle.ledger.specs.OneHandler.{Attempt, One, answer, accepted, covers, one-handler}
 use Rattle.ledger.specs.OneHandler as OneHandler
-use Rattle.ledger.specs.declared.Entry.the-variants as Entry
+use Rattle.rules.specs.declared.Entered.the-variants as Entered
 use Rattle.judgements.specs.Names.{secure, normal, realm}
 use Rattle.judgements.specs.Judge.{calledBy, argsOf, found, oneOf, callers}
 use Rattle.judgements.specs.Grounds.{Calls, Takes}
 use Rattle.judgements.specs.Asked.{key, judged-found}
 use Rattle.judgements.specs.declared.Judged.{Judged}
 use Rattle.calls.specs.Step.{State, sight, callerOf, judgedIn, called, applied}
-use Rattle.lines.specs.declared.Status.{Status}
-use Rattle.lines.specs.declared.Status.the-variants.{Accepted, NoHex, Unknown, Misplaced, OutOfRange, Clash}
-use Rattle.lines.specs.declared.Frame.{Frame}
-use Rattle.lines.specs.declared.Frame.the-variants as Frame
-use Rattle.frames.specs.Frames.{Machine, first, framed, stateOf, performed}
+use Rattle.parsing.specs.declared.Status.{Status}
+use Rattle.parsing.specs.declared.Status.the-variants.{Accepted, NoHex, Unknown, Misplaced, OutOfRange, Clash}
+use Rattle.parsing.specs.declared.Frame.{Frame}
+use Rattle.parsing.specs.declared.Frame.the-variants as Frame
+use Rattle.calling.specs.Calling.{performed}
+use Rattle.frames.specs.Frames.{Machine, first, framed, stateOf}
 use Rattle.frames.specs.Stays.{framed-by}
-use Rattle.frames.specs.declared.Reply.{Reply}
-use Rattle.frames.specs.declared.Reply.the-variants.{Told, Called}
+use Rattle.calling.specs.declared.Reply.{Reply}
+use Rattle.calling.specs.declared.Reply.the-variants.{Told, Called}
 use Rattle.guarantees.specs.Runs.{Event, Events, next, reply, ran}
 
 -- ---- the entries that a run has accepted
@@ -61,7 +62,7 @@ entries m (e ∷ rest) = pick (fine (reply m e)) (entryOf (e .0)) [] ++ entries 
 -- ---- one line
 data Enters (m : Machine) (l : List Attempt) (o : Machine) : Type 0 where
   none : l ≡ [] → o .ledger ≡ m .ledger → Enters m l o
-  one : (a : Attempt) → l ≡ a ∷ [] → answer (m .ledger) a ≡ Entry.Accepted → o .ledger ≡ OneHandler.next (m .ledger) a → Enters m l o
+  one : (a : Attempt) → l ≡ a ∷ [] → answer (m .ledger) a ≡ Entered.Accepted → o .ledger ≡ OneHandler.next (m .ledger) a → Enters m l o
 
 not-fine : (why : Status) → (why ≡ Accepted → ⊥) → isFine why ≡ false
 not-fine Accepted n = absurd (n refl)

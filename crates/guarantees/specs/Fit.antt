@@ -11,51 +11,51 @@ use Rattle.ledger.specs.Ledger.{empty}
 use Rattle.registers.specs.Registers.{zeros}
 use Rattle.cores.specs.Power.{isOn, isPending}
 use Rattle.cores.specs.Cores.{power, firstPowers, firstTurns}
-use Rattle.pages.specs.Sizes.{lastWorld}
+use Rattle.rules.specs.Sizes.{lastWorld}
 use Rattle.pages.specs.Window.{acceptable}
 use Rattle.pages.specs.Owners.{unowned, unowned-whole, unowned-owner, given, given-whole, given-worlds}
 use Rattle.pages.specs.Named.{WholeNamed, unnamed, unnamed-whole, marked, marked-whole}
 use Rattle.pages.specs.Naming.{naming, Granted, naming-granted}
-use Rattle.pages.specs.declared.Naming.the-variants as Naming
+use Rattle.rules.specs.declared.Entered.the-variants as Entered
 use Rattle.mapping.specs.Lists.{unmapped, held-unmapped}
 use Rattle.mapping.specs.Sound.{sound-none}
 use Rattle.calls.specs.Step.{State, state, called, applied, arrivedIn}
 use Rattle.calls.specs.Effects.{WholeTables}
 use Rattle.calls.specs.Kept.{Right, called-right, arrival-right, first-right}
 use Rattle.calls.specs.declared.Site.{Site}
-use Rattle.lines.specs.declared.Frame.{Frame}
-use Rattle.frames.specs.Frames.{Machine, machine, first, unset, stateOf, seatOf, siteOf, fixed, fits, performed, withSetup, withPages, withState, withSeat}
+use Rattle.parsing.specs.declared.Frame.{Frame}
+use Rattle.setup.specs.Table.{ready, ended, window, cores, fixed, over, unset-ready, unset-ended, fixed-ready, fixed-ended, fixed-window, fixed-cores, over-ready, over-ended}
+use Rattle.setup.specs.Frames.{fits}
+use Rattle.calling.specs.Calling.{performed}
+use Rattle.frames.specs.Frames.{Machine, machine, first, stateOf, seatOf, withSetup, withPages, withState, withSeat}
 use Rattle.frames.specs.Stays.{framed-by, call-state, arrival-state}
-use Rattle.frames.specs.declared.Reply.{Reply}
+use Rattle.calling.specs.declared.Reply.{Reply}
 use Rattle.guarantees.specs.Runs.{Event, Events, next, ran, always}
 
 pub record Fit (m : Machine) : Type 0 where
   -- before there is a window, nothing has happened
-  pub idle : m .setup .ready ≡ false → m ≡ first
+  pub idle : ready (m .setup) ≡ false → m ≡ first
   -- once there is one, all is right
-  pub right : m .setup .ready ≡ true → Right (stateOf m)
+  pub right : ready (m .setup) ≡ true → Right (stateOf m)
   -- a page may be named only where nothing is mapped
-  pub bare : m .setup .ended ≡ false → m .lists ≡ unmapped
+  pub bare : ended (m .setup) ≡ false → m .lists ≡ unmapped
   pub names : WholeNamed (m .named)
-  pub ready : m .setup .ended ≡ true → m .setup .ready ≡ true
+  pub ready : ended (m .setup) ≡ true → ready (m .setup) ≡ true
 
 -- ---- the start
-never : {P : Type 0} → false ≡ true → P
-never e = absurd (yes-or-no false e refl)
-
 pub first-fit : Fit first
 first-fit =
     record {
       idle = λ e. refl;
-      right = λ (e : false ≡ true). never e;
+      right = λ e. absurd (yes-or-no _ e unset-ready);
       bare = λ e. refl;
       names = unnamed-whole;
-      ready = λ (e : false ≡ true). never e;
+      ready = λ e. absurd (yes-or-no _ e unset-ended);
     }
 
 -- ---- each frame that is accepted
 -- a window and cores such as there may be, and nothing done yet
-site-right : (site : Site) → fits site ≡ true → Right (state site empty unowned zeros firstPowers firstTurns unmapped)
+site-right : (site : Site) → fits (site .window) (site .cores) ≡ true → Right (state site empty unowned zeros firstPowers firstTurns unmapped)
 unfolding fits
 site-right site e =
     let some = right-true (acceptable (site .window)) (leb 1 (site .cores) && leb (site .cores) 8) e in
@@ -112,18 +112,21 @@ unfolding performed
 fit-next m e h =
     framed-by m (e .1) (λ (g : Frame) (o : Machine × Reply). Fit (o .0))
     (λ why. h) (λ g why d. h)
-    (λ base pages cores a b.
+    (λ base pages count a b.
+    let s = m .setup in
     record {
-      idle = λ (k : true ≡ false). never (sym k);
-      right = λ k. rw (h .idle a) (site-right (siteOf base pages cores) b);
-      bare = h .bare;
+      idle = λ k. absurd (yes-or-no _ (fixed-ready s base pages count) k);
+      right = λ k.
+          rw (h .idle a, fixed-window (first .setup) base pages count, fixed-cores (first .setup) base pages count)
+          (site-right (record { window = record { base = base; pages = pages }; cores = count }) b);
+      bare = λ k. h .bare (sym (fixed-ended s base pages count) ∙ k);
       names = h .names;
-      ready = λ k. refl;
+      ready = λ k. fixed-ready s base pages count;
     })
     (λ first last kind number a b c.
     record { idle = λ k. absurd (yes-or-no _ a k); right = λ k. entry-right (stateOf m) (h .right a) _; bare = h .bare; names = h .names; ready = h .ready })
     (λ first count to a b c.
-    let g = naming-granted (m .owners) (m .named) (m .setup .site .window .pages) first count to c in
+    let g = naming-granted (m .owners) (m .named) (window (m .setup) .pages) first count to c in
     record {
       idle = λ k. absurd (yes-or-no _ a k);
       right = λ k. rw (g .owners-are) (given-right (stateOf m) (h .right a) (h .bare b) first count to);
@@ -133,11 +136,11 @@ fit-next m e h =
     })
     (λ core a b c.
     record {
-      idle = λ k. absurd (yes-or-no _ a k);
+      idle = λ k. absurd (yes-or-no _ (over-ready (m .setup) ∙ a) k);
       right = λ k. rw (call-state m core (e .1)) (called-right (stateOf m) (h .right a) core c (e .1));
-      bare = λ (k : true ≡ false). never (sym k);
+      bare = λ k. absurd (yes-or-no _ (over-ended (m .setup)) k);
       names = h .names;
-      ready = λ k. a;
+      ready = λ k. over-ready (m .setup) ∙ a;
     })
     (λ core a b c.
     record {

@@ -6,10 +6,11 @@ use Rattle.pages.specs.Window.{runOf}
 use Rattle.pages.specs.Owners.{owner}
 use Rattle.pages.specs.declared.Place.the-variants.{Page}
 use Rattle.calls.specs.Step.{sight}
-use Rattle.lines.specs.declared.Status.the-variants.{Accepted}
-use Rattle.lines.specs.declared.Frame.the-variants as Frame
+use Rattle.parsing.specs.declared.Status.the-variants.{Accepted}
+use Rattle.parsing.specs.declared.Frame.the-variants as Frame
+use Rattle.setup.specs.Table.{window}
 use Rattle.frames.specs.Frames.{Machine, stateOf}
-use Rattle.frames.specs.declared.Reply.the-variants.{Told}
+use Rattle.calling.specs.declared.Reply.the-variants.{Told}
 use Rattle.judgements.specs.Asked.{Granted}
 use Rattle.guarantees.specs.Runs.{Event, Events, next, reply, Taken, ran}
 
@@ -24,7 +25,7 @@ pub record Transfers (m : Machine) (e : Event) (page to : ℕ) : Type 0 where
   pub count : ℕ
   pub granted : Granted (sight (stateOf m) core) (e .1) start count to
   pub lowest : ℕ
-  pub lies : runOf (m .setup .site .window) start count ≡ Page lowest
+  pub lies : runOf (window (m .setup)) start count ≡ Page lowest
   pub low : lowest ≤ page
   pub high : page < lowest + count
 

@@ -15,20 +15,22 @@ use Rattle.pages.specs.Owners.{owner, unowned-owner}
 use Rattle.pages.specs.Named.{isNamed, free-at}
 use Rattle.pages.specs.Naming.{naming, Granted, naming-granted, granted-inside, granted-outside}
 use Rattle.pages.specs.declared.Place.the-variants.{Page}
-use Rattle.pages.specs.declared.Naming.the-variants as Naming
+use Rattle.rules.specs.declared.Entered.the-variants as Entered
 use Rattle.judgements.specs.declared.Deed.{Deed}
 use Rattle.judgements.specs.declared.Deed.the-variants.{Nothing, Move, Map, Unmap, Start, Stop, HandOver, Finish}
 use Rattle.calls.specs.Step.{State, sight, called, applied, arrivedIn}
 use Rattle.calls.specs.Effects.{deedIn, after, Carries, owners-spared, movable, moved-inside, moved-outside}
 use Rattle.calls.specs.Kept.{Right}
-use Rattle.lines.specs.declared.Status.{Status}
-use Rattle.lines.specs.declared.Status.the-variants.{Accepted}
-use Rattle.lines.specs.declared.Frame.{Frame}
-use Rattle.lines.specs.declared.Frame.the-variants as Frame
-use Rattle.frames.specs.Frames.{Machine, first, framed, stateOf, performed}
+use Rattle.parsing.specs.declared.Status.{Status}
+use Rattle.parsing.specs.declared.Status.the-variants.{Accepted}
+use Rattle.parsing.specs.declared.Frame.{Frame}
+use Rattle.parsing.specs.declared.Frame.the-variants as Frame
+use Rattle.setup.specs.Table.{ready, ended, window}
+use Rattle.calling.specs.Calling.{performed}
+use Rattle.frames.specs.Frames.{Machine, first, framed, stateOf}
 use Rattle.frames.specs.Stays.{framed-by, shown-not-told, settled, call-ends}
-use Rattle.frames.specs.declared.Reply.{Reply}
-use Rattle.frames.specs.declared.Reply.the-variants.{Told, Called}
+use Rattle.calling.specs.declared.Reply.{Reply}
+use Rattle.calling.specs.declared.Reply.the-variants.{Told, Called}
 use Rattle.guarantees.specs.Runs.{Event, Events, byte, next, reply, ran, ran-two, always}
 use Rattle.judgements.specs.Asked.{granted-moves, moves-granted}
 use Rattle.guarantees.specs.Named.{Transfers, Names, Unmoved, Unnamed, LastTransfer, NamedBy, Named, by-transfer, by-set-up, as-before}
@@ -88,16 +90,16 @@ transfer-or-not Finish y n = n (λ k. k)
 
 module _ (m : Machine) (fit : Fit m) (e : Event) (page : ℕ) where
   -- an accepted naming
-  naming-outcome : (lowest count to : ℕ) → m .setup .ready ≡ true → naming (m .owners) (m .named) (m .setup .site .window .pages) lowest count to .0 ≡ Naming.Done
-      → e .0 ≡ Frame.Name lowest count to → reply m e ≡ Told Accepted → (o : Machine) → o .owners ≡ naming (m .owners) (m .named) (m .setup .site .window .pages) lowest count to .1 .0
+  naming-outcome : (lowest count to : ℕ) → ready (m .setup) ≡ true → naming (m .owners) (m .named) (window (m .setup) .pages) lowest count to .0 ≡ Entered.Accepted
+      → e .0 ≡ Frame.Name lowest count to → reply m e ≡ Told Accepted → (o : Machine) → o .owners ≡ naming (m .owners) (m .named) (window (m .setup) .pages) lowest count to .1 .0
       → Outcome m e page o
   naming-outcome lowest count to a c is told o w =
-      let g = naming-granted (m .owners) (m .named) (m .setup .site .window .pages) lowest count to c in
-      let done = naming (m .owners) (m .named) (m .setup .site .window .pages) lowest count to .1 in
+      let g = naming-granted (m .owners) (m .named) (window (m .setup) .pages) lowest count to c in
+      let done = naming (m .owners) (m .named) (window (m .setup) .pages) lowest count to .1 in
       inside-or-not lowest count page
       (λ h l. gave to (names (record { lowest = lowest; count = count; is-name = is; accepted = told; low = h; below = l }))
-      (rw w (granted-inside (m .owners) (m .named) (m .setup .site .window .pages) lowest count to page done g (fit .right a .whole .owners-whole) (fit .names) h l .0)))
-      (λ n. kept (λ u. none u n) (rw w (granted-outside (m .owners) (m .named) (m .setup .site .window .pages) lowest count to page done g n .0)))
+      (rw w (granted-inside (m .owners) (m .named) (window (m .setup) .pages) lowest count to page done g (fit .right a .whole .owners-whole) (fit .names) h l .0)))
+      (λ n. kept (λ u. none u n) (rw w (granted-outside (m .owners) (m .named) (window (m .setup) .pages) lowest count to page done g n .0)))
     where
       none : (u : ℕ) → (lowest ≤ page → page < lowest + count → ⊥) → Gives m e page u → ⊥
       none u n (moves t) = omega (arith, ap byte (sym (t .is-call) ∙ is))
@@ -108,7 +110,7 @@ module _ (m : Machine) (fit : Fit m) (e : Event) (page : ℕ) where
           n (omega (arith, t .low)) (omega (arith, t .below))
 
   -- an accepted call
-  call-outcome : (core : ℕ) → m .setup .ready ≡ true → e .0 ≡ Frame.Call core → ((why : Status) → reply m e ≡ Told why → ⊥)
+  call-outcome : (core : ℕ) → ready (m .setup) ≡ true → e .0 ≡ Frame.Call core → ((why : Status) → reply m e ≡ Told why → ⊥)
       → (o : Machine) → o .owners ≡ after (stateOf m) core (e .1) .owners → Outcome m e page o
   call-outcome core a is ok o w =
       transfer-or-not (deedIn (stateOf m) core (e .1))
@@ -123,7 +125,7 @@ module _ (m : Machine) (fit : Fit m) (e : Event) (page : ℕ) where
       same-core : (c : ℕ) → e .0 ≡ Frame.Call c → c ≡ core
       same-core c is2 = let k : Frame.Call c ≡ Frame.Call core = sym is2 ∙ is in cc
 
-      elsewhere : (u start count to : ℕ) → deedIn (stateOf m) core (e .1) ≡ Move start count to → (lowest : ℕ) → runOf (m .setup .site .window) start count ≡ Page lowest
+      elsewhere : (u start count to : ℕ) → deedIn (stateOf m) core (e .1) ≡ Move start count to → (lowest : ℕ) → runOf (window (m .setup)) start count ≡ Page lowest
           → (lowest ≤ page → page < lowest + count → ⊥) → Gives m e page u → ⊥
       elsewhere u start count to d lowest lies n (names t) = omega (arith, ap byte (sym (t .is-name) ∙ is))
       elsewhere u start count to d lowest lies n (moves t) =
@@ -180,10 +182,10 @@ module _ (m : Machine) (fit : Fit m) (e : Event) (page : ℕ) where
 -- ---- set-up comes before the first call, and names a page once
 module _ (m : Machine) (e : Event) (page : ℕ) where
   -- a granted transfer is a call, and so set-up has ended after it
-  transfer-ends : (to : ℕ) → Transfers m e page to → next m e .setup .ended ≡ true
+  transfer-ends : (to : ℕ) → Transfers m e page to → ended (next m e .setup) ≡ true
   transfer-ends to t = by-reply (reply m e) refl
     where
-      by-reply : (r : Reply) → reply m e ≡ r → next m e .setup .ended ≡ true
+      by-reply : (r : Reply) → reply m e ≡ r → ended (next m e .setup) ≡ true
       by-reply (Told why) k = absurd (t .accepted why k)
       by-reply (Called core world x) k = call-ends m (e .0) (e .1) core world x k
 
@@ -194,15 +196,15 @@ module _ (m : Machine) (e : Event) (page : ℕ) where
       framed-by m (e .1) (λ (g : Frame) (o : Machine × Reply). isNamed (o .0 .named) page ≡ true)
       (λ why. k) (λ g why d. k) (λ base pages cores a b. k) (λ lowest last kind number a b c. k)
       (λ lowest count to a b c.
-      let g = naming-granted (m .owners) (m .named) (m .setup .site .window .pages) lowest count to c in
+      let g = naming-granted (m .owners) (m .named) (window (m .setup) .pages) lowest count to c in
       inside-or-not lowest count page
-      (λ h l. granted-inside (m .owners) (m .named) (m .setup .site .window .pages) lowest count to page _ g (fit .right a .whole .owners-whole) (fit .names) h l .1)
-      (λ n. granted-outside (m .owners) (m .named) (m .setup .site .window .pages) lowest count to page _ g n .1 ∙ k))
+      (λ h l. granted-inside (m .owners) (m .named) (window (m .setup) .pages) lowest count to page _ g (fit .right a .whole .owners-whole) (fit .names) h l .1)
+      (λ n. granted-outside (m .owners) (m .named) (window (m .setup) .pages) lowest count to page _ g n .1 ∙ k))
       (λ core a b c. k) (λ core a b c. k) (e .0)
 
   -- what an accepted naming met, and what it leaves
   record Timely (to : ℕ) (o : Machine) : Type 0 where
-    in-time : m .setup .ended ≡ false
+    in-time : ended (m .setup) ≡ false
     free : isNamed (m .named) page ≡ false
     marked : isNamed (o .named) page ≡ true
 
@@ -220,11 +222,11 @@ module _ (m : Machine) (e : Event) (page : ℕ) where
       let y : t .count ≡ count = cc in
       let h : lowest ≤ page = omega (arith, t .low) in
       let l : page < lowest + count = omega (arith, t .below) in
-      let g = naming-granted (m .owners) (m .named) (m .setup .site .window .pages) lowest count u c in
+      let g = naming-granted (m .owners) (m .named) (window (m .setup) .pages) lowest count u c in
       record {
         in-time = b;
         free = free-at (m .named) lowest count page (g .free) h l;
-        marked = granted-inside (m .owners) (m .named) (m .setup .site .window .pages) lowest count u page _ g (fit .right a .whole .owners-whole) (fit .names) h l .1;
+        marked = granted-inside (m .owners) (m .named) (window (m .setup) .pages) lowest count u page _ g (fit .right a .whole .owners-whole) (fit .names) h l .1;
       })
       (λ core a b c is so. other is (λ k. omega arith))
       (λ core a b c is so. other is (λ k. omega arith))
@@ -235,11 +237,11 @@ module _ (m : Machine) (e : Event) (page : ℕ) where
 
 module _ (page : ℕ) where
   -- once set-up has ended it has ended for good
-  ended-stays : (run : Events) (m : Machine) → m .setup .ended ≡ true → ran m run .setup .ended ≡ true
-  ended-stays run m k = always (λ (q : Machine). q .setup .ended ≡ true) (λ q e h. settled q (e .0) (e .1) h .ended) m run k
+  ended-stays : (run : Events) (m : Machine) → ended (m .setup) ≡ true → ended (ran m run .setup) ≡ true
+  ended-stays run m k = always (λ (q : Machine). ended (q .setup) ≡ true) (λ q e h. settled q (e .0) (e .1) h .ended) m run k
 
   -- then no page is named
-  ended-unnamed : (run : Events) (m : Machine) → Fit m → m .setup .ended ≡ true → Unnamed m run page
+  ended-unnamed : (run : Events) (m : Machine) → Fit m → ended (m .setup) ≡ true → Unnamed m run page
   unfolding Unnamed
   ended-unnamed [] m fit k = tt
   ended-unnamed (e ∷ rest) m fit k =

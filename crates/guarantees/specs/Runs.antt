@@ -4,14 +4,14 @@ use mathlib.Core.List.{List, [], _∷_, _++_}
 use Prim.Native.Nat.{ℕ}
 use lib.ListN.{length}
 use Rattle.rules.specs.Agree.{agree}
-use Rattle.lines.specs.declared.Status.{Status}
-use Rattle.lines.specs.declared.Frame.{Frame}
-use Rattle.lines.specs.declared.Frame.the-variants as Frame
+use Rattle.parsing.specs.declared.Status.{Status}
+use Rattle.parsing.specs.declared.Frame.{Frame}
+use Rattle.parsing.specs.declared.Frame.the-variants as Frame
 use Rattle.frames.specs.Frames.{Machine, first, framed}
-use Rattle.frames.specs.declared.Reply.{Reply}
-use Rattle.frames.specs.declared.Reply.the-variants.{Told}
+use Rattle.calling.specs.declared.Reply.{Reply}
+use Rattle.calling.specs.declared.Reply.the-variants.{Told}
 unfoldable pub use Rattle.stream.specs.Run.{reached as ran}
-pub use Rattle.stream.specs.Parts.{reached-two as ran-two}
+pub use Rattle.stream.specs.Run.{reached-two as ran-two}
 
 -- a line as it is read: its frame, and the eight numbers of a call
 abbrev pub Event : Type 0

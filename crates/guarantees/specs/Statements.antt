@@ -9,7 +9,7 @@ use Rattle.rules.specs.Choice.{pick}
 use Rattle.rules.specs.declared.Reason.{Reason}
 use Rattle.ledger.specs.Ledger.{handler}
 use Rattle.identifiers.specs.Identifier.{admitted}
-use Rattle.registers.specs.Registers.{saved, kept}
+use Rattle.registers.specs.Registers.{saved, saving}
 use Rattle.cores.specs.Power.{turnOf, put, on, isOn, isPending}
 use Rattle.cores.specs.Cores.{power, turn}
 use Rattle.pages.specs.Owners.{owner, countOwned}
@@ -19,7 +19,7 @@ use Rattle.mapping.specs.Mapping.{holds, deciding, leadOf}
 use Rattle.mapping.specs.Entries.{Every}
 use Rattle.mapping.specs.Sound.{covers, Formed}
 use Rattle.mapping.specs.Once.{coverings, countCovered}
-use Rattle.mapping.specs.declared.Mapping.{Mapping}
+use Rattle.ranges.specs.declared.Mapping.{Mapping}
 use Rattle.mapping.specs.declared.Lead.the-variants.{To}
 use Rattle.judgements.specs.Names.{normal}
 use Rattle.judgements.specs.Judge.{calledBy, argsOf, found}
@@ -29,21 +29,24 @@ use Rattle.judgements.specs.declared.Deed.the-variants.{HandOver, Finish}
 use Rattle.rules.specs.Reasons.{minus}
 use Rattle.calls.specs.Step.{sight, callerOf, judgedIn, startNumbers}
 use Rattle.calls.specs.Effects.{deedIn, answerIn, resultsIn, Receives}
-use Rattle.lines.specs.declared.Status.{Status}
-use Rattle.lines.specs.declared.Status.the-variants.{Accepted}
-use Rattle.lines.specs.declared.Frame.{Frame}
-use Rattle.lines.specs.declared.Frame.the-variants as Frame
+use Rattle.parsing.specs.declared.Status.{Status}
+use Rattle.parsing.specs.declared.Status.the-variants.{Accepted}
+use Rattle.parsing.specs.declared.Frame.{Frame}
+use Rattle.parsing.specs.declared.Frame.the-variants as Frame
 use Rattle.text.specs.Text.{statusText, callText}
-use Rattle.frames.specs.Frames.{Machine, machine, first, stateOf, over, shownIn}
-use Rattle.frames.specs.declared.Reply.{Reply}
-use Rattle.frames.specs.declared.Reply.the-variants.{Told}
-use Rattle.stream.specs.Run.{textOf}
+use Rattle.setup.specs.Table.{ready, ended, cores, over}
+use Rattle.setup.specs.Table as Table
+use Rattle.calling.specs.Calling.{siteOf, shownIn}
+use Rattle.frames.specs.Frames.{Machine, machine, first, stateOf}
+use Rattle.calling.specs.declared.Reply.{Reply}
+use Rattle.calling.specs.declared.Reply.the-variants.{Told}
+use Rattle.answering.specs.Answer.{textOf}
 use Rattle.guarantees.specs.Runs.{Event, Events, Taken}
 use Rattle.judgements.specs.Asked.{key, HandsTo, Finishes, Reached}
 use Rattle.guarantees.specs.Named.{Named}
 
 abbrev pub window : Machine → Window
-window m = m .setup .site .window
+window m = Table.window (m .setup)
 
 -- the owner of a page, and the mappings of a world
 abbrev pub ownerIn : Machine → ℕ → ℕ
@@ -84,12 +87,12 @@ pub record Guaranteed (m : Machine) (run : Events) (last : Machine) (answers : L
   -- A core that is ON runs Normal, Secure or Realm.
   pub runs : (core : ℕ) → isOn (power (last .powers) core) ≡ true → Calls (turn (last .turns) core .world)
   -- Once set-up has said how many cores there are, no other is ON or pending.
-  pub absent : (core : ℕ) → last .setup .ready ≡ true → last .setup .site .cores ≤ core → (isOn (power (last .powers) core) ≡ false) × (isPending (power (last .powers) core) ≡ false)
+  pub absent : (core : ℕ) → ready (last .setup) ≡ true → cores (last .setup) ≤ core → (isOn (power (last .powers) core) ≡ false) × (isPending (power (last .powers) core) ≡ false)
   -- Before that nothing has happened.
-  pub idle : last .setup .ready ≡ false → last ≡ first
+  pub idle : ready (last .setup) ≡ false → last ≡ first
   -- The window and the number of cores stay once they are given; the ledger stays once set-up has ended, and set-up stays ended.
-  pub site-stays : m .setup .ready ≡ true → (last .setup .ready ≡ true) × (last .setup .site ≡ m .setup .site)
-  pub ledger-stays : m .setup .ended ≡ true → (last .setup .ended ≡ true) × (last .ledger ≡ m .ledger)
+  pub site-stays : ready (m .setup) ≡ true → (ready (last .setup) ≡ true) × (siteOf (last .setup) ≡ siteOf (m .setup))
+  pub ledger-stays : ended (m .setup) ≡ true → (ended (last .setup) ≡ true) × (last .ledger ≡ m .ledger)
   -- Each line has one answer.
   pub answered : length answers ≡ length run
 
@@ -110,7 +113,7 @@ abbrev pub denied : Machine → ℕ → List ℕ → Reason → Machine
 denied m core xs r =
     let caller = callerOf (stateOf m) core in
     machine (over (m .setup)) (m .named) (m .ledger) (m .owners)
-    (kept (kept (m .saved) core caller xs) core caller ((2 ^ 64 - minus r) ∷ []))
+    (saving (saving (m .saved) core caller xs) core caller ((2 ^ 64 - minus r) ∷ []))
     (m .powers) (m .turns) (m .lists)
 
 pub record Heeded (m : Machine) (e : Event) (last : Machine) (answer : Reply) : Type 0 where
@@ -122,8 +125,8 @@ pub record Heeded (m : Machine) (e : Event) (last : Machine) (answer : Reply) : 
   pub call-told : (core : ℕ) → e .0 ≡ Frame.Call core → answer ≡ Told Accepted → ⊥
   pub other-told : ((core : ℕ) → e .0 ≡ Frame.Call core → ⊥) → Taken answer → ⊥
   -- A call that is not refused as a frame ends set-up; nothing else does.
-  pub set-up-ends : Taken answer → last .setup .ended ≡ true
-  pub set-up-goes-on : (why : Status) → answer ≡ Told why → last .setup .ended ≡ m .setup .ended
+  pub set-up-ends : Taken answer → ended (last .setup) ≡ true
+  pub set-up-goes-on : (why : Status) → answer ≡ Told why → ended (last .setup) ≡ ended (m .setup)
   -- A refused call leaves the machine in which the caller has its eight numbers and set-up has ended, but for the refusal in x0.
   pub refused-call : (core : ℕ) (r : Reason) → e .0 ≡ Frame.Call core → Taken answer → answerIn (stateOf m) core (e .1) ≡ No r → last ≡ denied m core (e .1) r
   -- A call that passes the test on bits 23 to 16 is judged by the handler that the ledger has for its type and owner, or by none.

@@ -18,14 +18,16 @@ use Rattle.judgements.specs.declared.Deed.the-variants.{Nothing, Move, Map, Unm
 use Rattle.calls.specs.Step.{State, sight, callerOf, called, arrivedIn, startNumbers}
 use Rattle.calls.specs.Effects.{after, deedIn, answerIn, Receives, refused, saved-spared, turn-handed, turn-finished, own-results, own-frame, own-past, hands, handed-numbers, handed-rest, finishes, finished-numbers, finished-rest, arrival-saved, arrived-numbers, arrived-power, arrived-turn}
 use Rattle.calls.specs.Kept.{Right}
-use Rattle.lines.specs.declared.Status.{Status}
-use Rattle.lines.specs.declared.Status.the-variants.{Accepted}
-use Rattle.lines.specs.declared.Frame.{Frame}
-use Rattle.lines.specs.declared.Frame.the-variants as Frame
-use Rattle.frames.specs.Frames.{Machine, framed, stateOf, seatOf, over, performed, withState, withSeat, shownIn}
+use Rattle.parsing.specs.declared.Status.{Status}
+use Rattle.parsing.specs.declared.Status.the-variants.{Accepted}
+use Rattle.parsing.specs.declared.Frame.{Frame}
+use Rattle.parsing.specs.declared.Frame.the-variants as Frame
+use Rattle.setup.specs.Table.{ready, ended, cores, over}
+use Rattle.calling.specs.Calling.{performed, shownIn}
+use Rattle.frames.specs.Frames.{Machine, framed, stateOf, seatOf, withState, withSeat}
 use Rattle.frames.specs.Stays.{framed-by, shown-not-told, refused-same, told-goes-on, call-ends}
-use Rattle.frames.specs.declared.Reply.{Reply}
-use Rattle.frames.specs.declared.Reply.the-variants.{Told, Called}
+use Rattle.calling.specs.declared.Reply.{Reply}
+use Rattle.calling.specs.declared.Reply.the-variants.{Told, Called}
 use Rattle.guarantees.specs.Runs.{Event, byte, next, reply, Taken}
 use Rattle.judgements.specs.Judge.{oneOf, callers}
 use Rattle.judgements.specs.Asked.{hand-over-asked, finish-asked, asked-hand-over, asked-finish}
@@ -35,8 +37,8 @@ use Rattle.guarantees.specs.Statements.{denied, Heeded}
 
 -- an accepted call: the core may call, and the machine after it is the call's
 record Performs (m : Machine) (core : ℕ) (xs : List ℕ) (o : Machine × Reply) : Type 0 where
-  ready : m .setup .ready ≡ true
-  exists : core < m .setup .site .cores
+  ready : ready (m .setup) ≡ true
+  exists : core < cores (m .setup)
   on : isOn (power (m .powers) core) ≡ true
   is : o ≡ withState m (performed (m .setup) (stateOf m) core xs)
 
@@ -157,10 +159,10 @@ module _ (m : Machine) (e : Event) where
       (λ core a b c k h. omega (arith, ap byte (sym is ∙ k)))
       (e .0) refl refl
 
-  taken-ends : Taken (reply m e) → next m e .setup .ended ≡ true
+  taken-ends : Taken (reply m e) → ended (next m e .setup) ≡ true
   taken-ends t = by-reply (reply m e) refl
     where
-      by-reply : (r : Reply) → reply m e ≡ r → next m e .setup .ended ≡ true
+      by-reply : (r : Reply) → reply m e ≡ r → ended (next m e .setup) ≡ true
       by-reply (Told why) k = absurd (t why k)
       by-reply (Called core world x) k = call-ends m (e .0) (e .1) core world x k
 

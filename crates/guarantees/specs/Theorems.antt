@@ -14,15 +14,18 @@ use Rattle.ledger.specs.declared.Lookup.{Lookup}
 use Rattle.pages.specs.Owners.{unowned-owner}
 use Rattle.judgements.specs.Judge.{calledBy, argsOf, found}
 use Rattle.calls.specs.Step.{sight, judgedIn}
-use Rattle.lines.specs.Frame.{numbers, parsed, parsed-call}
+use Rattle.hex.specs.Hex.{numbers}
+use Rattle.parsing.specs.Frame.{parsed, parsed-call}
 use Rattle.lines.specs.Lines.{linesOf}
 use Rattle.lines.specs.Input.{reading, readings}
-use Rattle.lines.specs.declared.Frame.{Frame}
-use Rattle.lines.specs.declared.Frame.the-variants as Frame
+use Rattle.parsing.specs.declared.Frame.{Frame}
+use Rattle.parsing.specs.declared.Frame.the-variants as Frame
+use Rattle.setup.specs.Table.{ready}
 use Rattle.frames.specs.Frames.{Machine, first, stateOf}
-use Rattle.frames.specs.declared.Reply.{Reply}
-use Rattle.frames.specs.declared.Reply.the-variants.{Told, Called}
-use Rattle.stream.specs.Run.{textOf, answers, printed}
+use Rattle.calling.specs.declared.Reply.{Reply}
+use Rattle.calling.specs.declared.Reply.the-variants.{Told, Called}
+use Rattle.answering.specs.Answer.{textOf}
+use Rattle.stream.specs.Run.{answers, printed}
 use Rattle.guarantees.specs.Runs.{Event, Events, byte, next, reply, Taken, ran, replies, replies-count, Allowed, Follows, carried, follows-is, follows-ran}
 use Rattle.judgements.specs.Asked.{key}
 use Rattle.guarantees.specs.Named.{Named, by-transfer, by-set-up, as-before, LastTransfer, Unmoved}
@@ -88,7 +91,7 @@ none-names (s ∷ steps) [] line later lowest count to e k = let h : event s ≡
 none-names (s ∷ steps) (b ∷ before) line later lowest count to e k = let h : map event steps ≡ before ++ line ∷ later = cc in none-names steps before line later lowest count to h k
 
 -- any lines with an accepted 11 among them, then a run of steps, and what keeps the promise of the step all the way
-module _ (lines : Events) (m : Machine) (told : List Reply) (set-up : Follows first lines m told) (accepted : m .setup .ready ≡ true)
+module _ (lines : Events) (m : Machine) (told : List Reply) (set-up : Follows first lines m told) (accepted : ready (m .setup) ≡ true)
     (steps : List Step) (last : Machine) (given : List Reply) (run : Follows m (map event steps) last given) where
   -- After any run of calls and arrivals, refused ones among them, all that is guaranteed holds.
   pub any-steps : Guaranteed m (map event steps) last given

@@ -1,11 +1,11 @@
 -- A call's identifier: the parts in its fields, and the identifier that parts make.
-use mathlib.Core.Path.{_≡_, refl, sym, ap, _∙_}
-use mathlib.Core.Bool.{Bool, true, false, _&&_}
-use Prim.Native.Nat.{ℕ, _+_, _-_, _*_, _/_, _%_, _^_, _≤_, _<_}
+use mathlib.Core.Path.{_≡_, sym, ap, _∙_}
+use mathlib.Core.Bool.{Bool, true, _&&_}
+use Prim.Native.Nat.{ℕ, _+_, _-_, _*_, _/_, _%_, _^_, _<_}
 use native.Mathlib.Omega.{arith}
 use lib.Dec.{ltb, eqb}
-use borrow.Author.Tests.{lt-ltb, ltb-true, eq-eqb, ne-eqb, eqb-true, eqb-false}
-use Rattle.rules.specs.Choice.{pick, pick-yes, pick-no, by, either, yes-or-no, left-true, right-true}
+use borrow.Author.Tests.{lt-ltb, ltb-true}
+use Rattle.rules.specs.Choice.{pick, pick-yes, pick-no, either, left-true, right-true}
 use Rattle.identifiers.specs.declared.Identifier.{Identifier}
 use Rattle.identifiers.specs.declared.Parts.{Parts}
 use Rattle.identifiers.specs.declared.Joined.{Joined}
@@ -50,8 +50,8 @@ unfoldable pub joined : Parts → Joined
 joined p = pick (fitting p) (Whole (wholeOf p)) TooLarge
 
 -- the one key by which identifiers are compared
-unfoldable pub matched : Identifier → ℕ
-matched i = i .0
+unfoldable pub keyOf : Identifier → ℕ
+keyOf i = i .0
 
 -- a fast identifier may have no reserved bit set; a yielding one may
 unfoldable pub admitted : Parts → Bool
@@ -101,9 +101,6 @@ module _ (p : Parts) where
   unfolding joined
   too-large n = either (fitting p) (λ e. absurd (n (in-range p e))) (λ e. pick-no (fitting p) _ _ e)
 
-  pub not-too-large : joined p ≡ TooLarge → InRange p → ⊥
-  not-too-large e r = let z : _≡_ {A = ℕ} 0 1 = cc (joins r) in omega arith
-
   pub joined-in-range : (i : Identifier) → joined p ≡ Whole i → InRange p
   unfolding joined
   joined-in-range i e =
@@ -141,40 +138,3 @@ split-join p i e =
     let d : bits 15 0 (i .0) ≡ p .function = omega arith in
     let f : bits 23 16 (i .0) ≡ p .reserved = omega arith in
     λ k. record { fast = a k; wide = b k; owner = c k; function = d k; reserved = f k }
-
--- ---- x0 holds an identifier of 32 bits, and its key has no more
-pub of-in-range : (x0 : ℕ) → identifierOf x0 .0 < 2 ^ 32
-unfolding identifierOf
-of-in-range x0 = omega arith
-
-pub key-in-range : (x0 : ℕ) → matched (identifierOf x0) < 2 ^ 32
-unfolding matched
-key-in-range x0 = of-in-range x0
-
--- ---- the test on bits 23 to 16 fails exactly for a fast call in which they are not zero
-module _ (p : Parts) where
-  pub yielding-admitted : (p .fast ≡ 1 → ⊥) → admitted p ≡ true
-  unfolding admitted
-  yielding-admitted n = pick-no _ _ _ (ne-eqb (p .fast) 1 n)
-
-  pub zero-admitted : p .reserved ≡ 0 → admitted p ≡ true
-  unfolding admitted
-  zero-admitted e = by (λ (b : Bool). pick b (eqb (p .reserved) 0) true ≡ true) (eqb (p .fast) 1) (λ f. pick-yes true _ _ refl ∙ eq-eqb (p .reserved) 0 e) (λ f. pick-no false _ _ refl)
-
-  pub not-admitted : p .fast ≡ 1 → (p .reserved ≡ 0 → ⊥) → admitted p ≡ false
-  unfolding admitted
-  not-admitted e n = pick-yes _ _ _ (eq-eqb (p .fast) 1 e) ∙ ne-eqb (p .reserved) 0 n
-
-  -- ---- an argument is read whole by a 64-bit call, and by its low half by a 32-bit one
-  pub argument-wide : (x : ℕ) → p .wide ≡ 1 → argument p x ≡ x
-  unfolding argument
-  argument-wide x e = pick-no _ _ _ (ne-eqb (p .wide) 0 (omega arith))
-
-  pub argument-narrow : (x : ℕ) → p .wide ≡ 0 → argument p x ≡ low32 x
-  unfolding argument
-  argument-narrow x e = pick-yes _ _ _ (eq-eqb (p .wide) 0 e)
-
-  pub argument-below : (x : ℕ) → argument p x ≤ x
-  unfolding argument
-  argument-below x =
-      by (λ (b : Bool). pick b (low32 x) x ≤ x) (eqb (p .wide) 0) (λ f. rw (pick-yes true (low32 x) x) (omega arith)) (λ f. rw (pick-no false (low32 x) x) (omega arith))

@@ -1,6 +1,6 @@
 // The identifier of a call: its parts, and the identifier that parts make.
 ghost use mathlib.Core.Path.{_≡_};
-ghost use Rattle.identifiers.specs.Identifier.{identifierOf, parts, joined, matched, admitted, argument};
+ghost use Rattle.identifiers.specs.Identifier.{identifierOf, parts, joined, keyOf, admitted, argument};
 
 // One past the largest number of 32 bits.
 const LIMIT: u64 = 1 << 32;
@@ -100,8 +100,8 @@ impl Identifier {
     }
 
     // The one key by which identifiers are compared.
-    pub fn matched(self) -> u32
-        ensures { λ r. ⌜ r ≡ matched self ⌝ }
+    pub fn key(self) -> u32
+        ensures { λ r. ⌜ r ≡ keyOf self ⌝ }
     {
         self.0
     }

@@ -20,16 +20,20 @@ fn say_joined(p: Parts) {
     }
 }
 
-// The parts of the identifier in x0, and what they make when joined.
-fn show(x0: u64) {
-    let i = Identifier::of(x0);
-    let p = i.split();
-    number(b"", i.matched(), 8);
+fn say_parts(p: Parts) {
     number(b": fast ", p.fast, 1);
     number(b", wide ", p.wide, 1);
     number(b", owner ", p.owner, 2);
     number(b", function ", p.function, 4);
     number(b", reserved ", p.reserved, 2);
+}
+
+// The parts of the identifier in x0, and what they make when joined.
+fn show(x0: u64) {
+    let i = Identifier::of(x0);
+    let p = i.split();
+    number(b"", i.key(), 8);
+    say_parts(p);
     say(b"; ");
     say_joined(p);
     if p.admitted() {
@@ -59,8 +63,8 @@ fn read(x0: u64, argument: u64) {
     say(b"\n");
 }
 
-fn main() {
-    // the table of calls
+// The table of calls.
+fn calls() {
     show(0x80000000);
     show(0x80000001);
     show(0x84000000);
@@ -79,18 +83,30 @@ fn main() {
     show(0xC2000021);
     show(0xC2000022);
     show(0xC2000030);
-    // P3, P4 and P5, and an x0 whose upper half does not count
+}
+
+// P3, P4 and P5, and an x0 whose upper half does not count.
+fn edges() {
     show(0xF2000000);
     show(0x84010000);
     show(0x04010000);
     show(0x1234567884000000);
-    // the largest part of each field, and then each part one too large
+}
+
+// The largest part of each field, and then each part one too large.
+fn joins() {
     join(1, 1, 63, 65535, 255);
     join(2, 1, 63, 65535, 255);
     join(1, 2, 63, 65535, 255);
     join(1, 1, 64, 65535, 255);
     join(1, 1, 63, 65536, 255);
     join(1, 1, 63, 65535, 256);
+}
+
+fn main() {
+    calls();
+    edges();
+    joins();
     // a 32-bit call and a 64-bit call
     read(0x84000003, 0x1234567890ABCDEF);
     read(0xC4000003, 0x1234567890ABCDEF);

@@ -13,13 +13,13 @@ use Rattle.rules.specs.Choice as Choice
 use Rattle.rules.specs.Tests.{Test, sieve, sieved, goes, ends, Clear}
 use Rattle.rules.specs.declared.Reason.{Reason}
 use Rattle.rules.specs.declared.Reason.the-variants as Reason
-use Rattle.identifiers.specs.Identifier.{identifierOf, matched, admitted}
+use Rattle.identifiers.specs.Identifier.{identifierOf, keyOf, admitted}
 use Rattle.ledger.specs.Ledger.{handler}
 use Rattle.ledger.specs.declared.Lookup.{Lookup}
 use Rattle.ledger.specs.declared.Lookup.the-variants.{Handler, Nobody}
 use Rattle.pages.specs.declared.Place.{Place}
 use Rattle.pages.specs.declared.Place.the-variants.{Page, Outside}
-use Rattle.mapping.specs.declared.Mapping.{Mapping}
+use Rattle.ranges.specs.declared.Mapping.{Mapping}
 use Rattle.mapping.specs.declared.Verdict.{Verdict}
 use Rattle.mapping.specs.declared.Verdict.the-variants as Verdict
 use Rattle.mapping.specs.declared.Lead.{Lead}
@@ -176,7 +176,7 @@ module _ (s : View) (a : Args) (h key : ℕ) where
 -- ---- the whole judgement
 -- the identifier of a call
 abbrev pub key : List ℕ → ℕ
-key xs = matched (identifierOf (getD xs 0 0))
+key xs = keyOf (identifierOf (getD xs 0 0))
 
 -- Nothing is done but what the call asks for.
 pub called-for : (s : Sight) (xs : List ℕ) → Served (s .view .seen) (argsOf (calledBy xs) xs) (key xs) (handler (s .ledger) (calledBy xs .fast) (calledBy xs .owner)) (judged s xs .deed) (judged s xs .answer)

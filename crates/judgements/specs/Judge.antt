@@ -8,7 +8,7 @@ use Rattle.rules.specs.Choice.{pick}
 use Rattle.rules.specs.Tests.{Test, refuses, sieve}
 use Rattle.rules.specs.declared.Reason.{Reason}
 use Rattle.rules.specs.declared.Reason.the-variants as Reason
-use Rattle.identifiers.specs.Identifier.{identifierOf, parts, matched, admitted, argument}
+use Rattle.identifiers.specs.Identifier.{identifierOf, parts, keyOf, admitted, argument}
 use Rattle.identifiers.specs.declared.Parts.{Parts}
 use Rattle.ledger.specs.Ledger.{handler}
 use Rattle.ledger.specs.declared.Lookup.{Lookup}
@@ -22,7 +22,7 @@ use Rattle.pages.specs.declared.Window.{Window}
 use Rattle.pages.specs.declared.Place.{Place}
 use Rattle.pages.specs.declared.Place.the-variants.{Page, Outside}
 use Rattle.mapping.specs.Mapping.{mapVerdict, hasExactly, leadOf}
-use Rattle.mapping.specs.declared.Mapping.{Mapping}
+use Rattle.ranges.specs.declared.Mapping.{Mapping}
 use Rattle.mapping.specs.declared.Verdict.{Verdict}
 use Rattle.mapping.specs.declared.Verdict.the-variants as Verdict
 use Rattle.mapping.specs.declared.Lead.{Lead}
@@ -100,7 +100,7 @@ argsOf p xs =
 
 -- the key of the identifier that a call asks about
 abbrev pub asked : Args → ℕ
-asked a = matched (identifierOf (a .x1))
+asked a = keyOf (identifierOf (a .x1))
 
 -- ---- handler 0: the architecture
 -- a question whether a call is known: 0, or -1
@@ -289,4 +289,4 @@ judgedBy s p a key =
     (found (s .view) a key (handler (s .ledger) (p .fast) (p .owner)))
 
 unfoldable pub judged : Sight → List ℕ → Judged
-judged s xs = judgedBy s (calledBy xs) (argsOf (calledBy xs) xs) (matched (identifierOf (getD xs 0 0)))
+judged s xs = judgedBy s (calledBy xs) (argsOf (calledBy xs) xs) (keyOf (identifierOf (getD xs 0 0)))

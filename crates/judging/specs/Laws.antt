@@ -5,7 +5,7 @@ use Prim.Native.Nat.{ℕ}
 use lib.ListN.{getD}
 use Rattle.rules.specs.Tests.{contraries}
 use Rattle.rules.specs.declared.Reason.the-variants as Reason
-use Rattle.identifiers.specs.Identifier.{identifierOf, parts, matched}
+use Rattle.identifiers.specs.Identifier.{identifierOf, parts, keyOf}
 use Rattle.identifiers.specs.declared.Identifier.{Identifier}
 use Rattle.identifiers.specs.declared.Parts.{Parts}
 use Rattle.ledger.specs.declared.Lookup.{Lookup}
@@ -26,7 +26,7 @@ module _ (s : View) (a : Args) (key : ℕ) (k l : Lookup) (r : Judged) (same : k
 
 -- ---- the call that eight numbers make
 pub judged-is : (s : Sight) (xs : List ℕ) (id : Identifier) (p : Parts) (a : Args) (key : ℕ) (r : Judged)
-    → id ≡ identifierOf (getD xs 0 0) → p ≡ parts id → a ≡ argsOf p xs → key ≡ matched id → r ≡ judgedBy s p a key → r ≡ judged s xs
+    → id ≡ identifierOf (getD xs 0 0) → p ≡ parts id → a ≡ argsOf p xs → key ≡ keyOf id → r ≡ judgedBy s p a key → r ≡ judged s xs
 unfolding judged
 judged-is s xs id p a key r i e f g h = rw (← i, ← e, ← f, ← g) h
 

@@ -105,5 +105,5 @@ pub fn judge(
     let id = Identifier::of(x[0]);
     let p = id.split();
     let a = read_args(p, x);
-    judge_parts(v, book, powers, owners, lists, p, a, id.matched())
+    judge_parts(v, book, powers, owners, lists, p, a, id.key())
 }

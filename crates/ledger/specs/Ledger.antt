@@ -2,7 +2,7 @@
 use mathlib.Core.Path.{_≡_, refl, sym, ap, _∙_}
 use mathlib.Core.Bool.{Bool, true, false, _&&_}
 use mathlib.Core.List.{List, [], _∷_}
-use Prim.Native.Nat.{ℕ, _+_, _-_, _≤_, _<_}
+use Prim.Native.Nat.{ℕ, _+_, _-_, _≤_}
 use native.Mathlib.Omega.{arith}
 use lib.Dec.{ltb, leb, eqb}
 use borrow.Author.Tests.{ltb-true, ltb-false, leb-true, eqb-true, le-leb, eq-eqb}
@@ -11,10 +11,10 @@ use Rattle.rules.specs.Tests.{refuses, sieve}
 use Rattle.rules.specs.Search.{any, any-not, any-if-not}
 use Rattle.ledger.specs.declared.Lookup.{Lookup}
 use Rattle.ledger.specs.declared.Lookup.the-variants.{Handler, Nobody}
-use Rattle.ledger.specs.declared.Entry.{Entry}
-use Rattle.ledger.specs.declared.Entry.the-variants.{Accepted, OutOfRange, Taken}
+use Rattle.rules.specs.declared.Entered.{Entered}
+use Rattle.rules.specs.declared.Entered.the-variants.{Accepted, OutOfRange, Taken}
 use Rattle.ledger.specs.Pairs.{assigned, record-is, recorded-in, recorded-out, recorded-proper}
-pub use Rattle.ledger.specs.Pairs.{Proper, empty, handler, recorded, empty-proper, empty-handler, pair-known}
+pub use Rattle.ledger.specs.Pairs.{Proper, empty, handler, recorded, empty-proper, empty-handler}
 
 -- the pair has a handler
 abbrev pub has : Lookup → Bool
@@ -25,9 +25,9 @@ unfoldable pub taken : List ℕ → ℕ → ℕ → Bool
 taken t kind owner = has (handler t kind owner)
 
 -- refused for a number outside its range, and then for a pair that has a handler already; a refused entry changes nothing
-unfoldable pub entered : List ℕ → ℕ → ℕ → ℕ → ℕ → Entry × List ℕ
+unfoldable pub entered : List ℕ → ℕ → ℕ → ℕ → ℕ → Entered × List ℕ
 entered t first last kind number =
-    sieve (λ (why : Entry). (why, t))
+    sieve (λ (why : Entered). (why, t))
     (refuses (ltb last first) OutOfRange
     ∷ refuses (ltb 63 last) OutOfRange
     ∷ refuses (ltb 1 kind) OutOfRange
@@ -36,7 +36,7 @@ entered t first last kind number =
     ∷ [])
     (Accepted, recorded t first last kind number)
 
-abbrev pub isAccepted : Entry → Bool
+abbrev pub isAccepted : Entered → Bool
 isAccepted Accepted = true
 isAccepted OutOfRange = false
 isAccepted Taken = false
@@ -56,7 +56,7 @@ module _ (t : List ℕ) (kind owner : ℕ) (found : Lookup) (is : found ≡ hand
   is-free e = rw (← is, e)
 
 pub accepts : (t u : List ℕ) (first last kind number : ℕ) → u ≡ assigned t kind first (last - first + 1) number
-    → _≡_ {A = Entry × List ℕ} (Accepted, u) (Accepted, recorded t first last kind number)
+    → _≡_ {A = Entered × List ℕ} (Accepted, u) (Accepted, recorded t first last kind number)
 accepts t u first last kind number e = rw (record-is t u first last kind number e)
 
 -- ---- an entry by its three outcomes
@@ -94,13 +94,13 @@ module _ (first last kind k o : ℕ) where
   unfolding names
   naming e h l = both-true _ _ (eq-eqb _ _ e) (both-true _ _ (le-leb _ _ h) (le-leb _ _ l))
 
-is-accepted : (e : Entry) → isAccepted e ≡ true → e ≡ Accepted
+is-accepted : (e : Entered) → isAccepted e ≡ true → e ≡ Accepted
 is-accepted Accepted h = refl
 is-accepted OutOfRange h = absurd (yes-or-no true refl (sym h))
 is-accepted Taken h = absurd (yes-or-no true refl (sym h))
 
 module _ (t : List ℕ) (first last kind number : ℕ) where
-  module _ (P : Entry × List ℕ → Type 0)
+  module _ (P : Entered × List ℕ → Type 0)
       (outside : (Ranged first last kind number → ⊥) → P (OutOfRange, t))
       (clash : Ranged first last kind number → (Free t first last kind → ⊥) → P (Taken, t))
       (done : Ranged first last kind number → Free t first last kind → P (Accepted, recorded t first last kind number)) where
@@ -117,16 +117,9 @@ module _ (t : List ℕ) (first last kind number : ℕ) where
         (λ e. clash r (λ f. yes-or-no _ e (any-if-not (taken t kind) first (last - first + 1) (λ o h l. not-taken t kind o (f o h (omega arith))))))
         (λ e. done r (λ o h l. taken-not t kind o (any-not (taken t kind) first (last - first + 1) o e h (omega arith))))))))
 
-  -- which of the three it is
-  pub out-of-range : (Ranged first last kind number → ⊥) → entered t first last kind number ≡ (OutOfRange, t)
-  out-of-range n = entered-by (λ (o : Entry × List ℕ). o ≡ (OutOfRange, t)) (λ m. refl) (λ r f. absurd (n r)) (λ r f. absurd (n r))
-
-  pub already-taken : Ranged first last kind number → (Free t first last kind → ⊥) → entered t first last kind number ≡ (Taken, t)
-  already-taken r n = entered-by (λ (o : Entry × List ℕ). o ≡ (Taken, t)) (λ m. absurd (m r)) (λ s f. refl) (λ s f. absurd (n f))
-
   pub accepted-where : Ranged first last kind number → Free t first last kind → entered t first last kind number ≡ (Accepted, recorded t first last kind number)
   accepted-where r f =
-      entered-by (λ (o : Entry × List ℕ). o ≡ (Accepted, recorded t first last kind number)) (λ m. absurd (m r)) (λ s n. absurd (n f)) (λ s g. refl)
+      entered-by (λ (o : Entered × List ℕ). o ≡ (Accepted, recorded t first last kind number)) (λ m. absurd (m r)) (λ s n. absurd (n f)) (λ s g. refl)
 
   -- an accepted entry was in range, and its pairs were free
   pub record Granted : Type 0 where
@@ -135,12 +128,12 @@ module _ (t : List ℕ) (first last kind number : ℕ) where
 
   pub granted : entered t first last kind number .0 ≡ Accepted → Granted
   granted =
-      entered-by (λ (o : Entry × List ℕ). o .0 ≡ Accepted → Granted) (λ m e. absurd (let z : _≡_ {A = ℕ} 0 1 = cc in omega arith))
+      entered-by (λ (o : Entered × List ℕ). o .0 ≡ Accepted → Granted) (λ m e. absurd (let z : _≡_ {A = ℕ} 0 1 = cc in omega arith))
       (λ r n e. absurd (let z : _≡_ {A = ℕ} 0 1 = cc in omega arith)) (λ r f e. record { ranged = r; free = f })
 
   -- a refused one leaves the ledger as it was
   pub refused-same : (entered t first last kind number .0 ≡ Accepted → ⊥) → entered t first last kind number .1 ≡ t
-  refused-same = entered-by (λ (o : Entry × List ℕ). (o .0 ≡ Accepted → ⊥) → o .1 ≡ t) (λ m n. refl) (λ r f n. refl) (λ r f n. absurd (n refl))
+  refused-same = entered-by (λ (o : Entered × List ℕ). (o .0 ≡ Accepted → ⊥) → o .1 ≡ t) (λ m n. refl) (λ r f n. refl) (λ r f n. absurd (n refl))
 
   -- an accepted one gives its handler to the pairs that it covers
   pub covered : Proper t → entered t first last kind number .0 ≡ Accepted → (owner : ℕ) → first ≤ owner → owner ≤ last
@@ -152,7 +145,7 @@ module _ (t : List ℕ) (first last kind number : ℕ) where
   -- and every other pair keeps what it had
   pub uncovered : (k o : ℕ) → (k ≡ kind → first ≤ o → o ≤ last → ⊥) → handler (entered t first last kind number .1) k o ≡ handler t k o
   uncovered k o apart =
-      entered-by (λ (r : Entry × List ℕ). handler (r .1) k o ≡ handler t k o) (λ m. refl) (λ r f. refl)
+      entered-by (λ (r : Entered × List ℕ). handler (r .1) k o ≡ handler t k o) (λ m. refl) (λ r f. refl)
       (λ r f. recorded-out t first last kind number (r .order) k o apart)
 
   -- both in one: the handler of any pair after any attempt at an entry
@@ -175,4 +168,4 @@ module _ (t : List ℕ) (first last kind number : ℕ) where
       rw (p .0) (granted (is-accepted _ (left-true _ _ y)) .free o (p .1) (p .2))
 
   pub entered-proper : Proper t → Proper (entered t first last kind number .1)
-  entered-proper w = entered-by (λ (o : Entry × List ℕ). Proper (o .1)) (λ m. w) (λ r f. w) (λ r f. recorded-proper t first last kind number w)
+  entered-proper w = entered-by (λ (o : Entered × List ℕ). Proper (o .1)) (λ m. w) (λ r f. w) (λ r f. recorded-proper t first last kind number w)

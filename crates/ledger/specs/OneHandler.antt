@@ -8,8 +8,8 @@ use lib.ListN.{length}
 use Rattle.rules.specs.Choice.{pick, chosen, pick-yes, pick-no, either}
 use Rattle.ledger.specs.declared.Lookup.{Lookup}
 use Rattle.ledger.specs.declared.Lookup.the-variants.{Handler, Nobody}
-use Rattle.ledger.specs.declared.Entry.{Entry}
-use Rattle.ledger.specs.declared.Entry.the-variants.{Accepted}
+use Rattle.rules.specs.declared.Entered.{Entered}
+use Rattle.rules.specs.declared.Entered.the-variants.{Accepted}
 use Rattle.ledger.specs.Ledger.{Proper, empty, handler, empty-proper, empty-handler, entered, isAccepted, names, handler-after, handler-before, entered-proper, Ranged, accepted-where, granted}
 use Rattle.ledger.specs.Only.{only, only-has, only-none, only-more, only-next}
 
@@ -21,7 +21,7 @@ pub record Attempt : Type 0 where
   pub number : ℕ
 
 -- what a ledger answers to it, and the ledger that is left
-abbrev pub answer : List ℕ → Attempt → Entry
+abbrev pub answer : List ℕ → Attempt → Entered
 answer t a = entered t (a .first) (a .last) (a .kind) (a .number) .0
 
 abbrev pub next : List ℕ → Attempt → List ℕ
@@ -127,7 +127,7 @@ module _ (before : List Attempt) (a : Attempt) where
   -- Such an attempt is accepted.
   pub welcome-accepted : Welcome → answer (ran empty before) a ≡ Accepted
   welcome-accepted w =
-      ap (λ (e : Entry × List ℕ). e .0)
+      ap (λ (e : Entered × List ℕ). e .0)
       (accepted-where (ran empty before) (a .first) (a .last) (a .kind) (a .number) (w .ranged)
       (λ owner h l. nobody before (a .kind) owner (λ b m c. w .free b owner m h l c)))
 

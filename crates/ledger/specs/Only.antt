@@ -1,12 +1,12 @@
 -- Those of a list that pass a test.
-use mathlib.Core.Path.{_≡_, refl, _∙_}
+use mathlib.Core.Path.{_≡_, refl}
 use mathlib.Core.Bool.{Bool, true, false, _&&_}
 use mathlib.Core.List.{List, [], _∷_, _++_, List·Memᴰ, List·Memᴰ·cases-cons, List·Memᴰ·head, List·Memᴰ·tail}
 use mathlib.Core.Logic.{⊎-elim}
-use Prim.Native.Nat.{ℕ, suc, _≤_}
+use Prim.Native.Nat.{suc, _≤_}
 use native.Mathlib.Omega.{arith}
 use lib.ListN.{length}
-use Rattle.rules.specs.Choice.{pick, chosen, pick-yes, pick-no, yes-or-no}
+use Rattle.rules.specs.Choice.{pick, chosen, pick-yes, yes-or-no}
 
 unfoldable pub only : {A : Type 0} → (A → Bool) → List A → List A
 only p [] = []

@@ -1,6 +1,6 @@
 -- How a ledger keeps the handler of each pair of type and owner: a byte each, 0 for nobody. Nothing here is opened elsewhere: `handler` says what a ledger holds, and the laws what a record of an entry does to it.
 use mathlib.Core.Path.{_≡_, refl, sym, ap, _∙_}
-use mathlib.Core.Bool.{Bool, true, false, _&&_}
+use mathlib.Core.Bool.{Bool, true, _&&_}
 use mathlib.Core.List.{List}
 use mathlib.Core.Logic.{⊎-elim}
 use Prim.Native.Nat.{ℕ, zero, suc, _+_, _-_, _*_, _≤_, _<_}
@@ -203,22 +203,6 @@ unfolding handler empty named
 empty-handler kind owner =
     chosen (λ (found : Lookup). found ≡ Nobody) (pair kind owner) _ _
     (λ e. let p = pair-at kind owner e in rw (blank-read 128 0 (place kind owner) (omega arith)) (pick-no _ _ _ refl)) (λ e. refl)
-
--- whatever a ledger holds, there are no more pairs than those, and no more handlers
-pub pair-known : (t : List ℕ) (kind owner number : ℕ) → handler t kind owner ≡ Handler number → (kind ≤ 1) × (owner ≤ 63) × (number ≤ 3)
-unfolding handler named
-pair-known t kind owner number =
-    chosen (λ (found : Lookup). found ≡ Handler number → (kind ≤ 1) × (owner ≤ 63) × (number ≤ 3)) (pair kind owner) _ _
-    (λ e.
-    let p = pair-at kind owner e in
-    let byte = read 128 t (place kind owner) in
-    chosen (λ (found : Lookup). found ≡ Handler number → (kind ≤ 1) × (owner ≤ 63) × (number ≤ 3)) (ltb 0 byte && leb byte 4) _ _
-    (λ f h.
-    let n : byte - 1 ≡ number = cc in
-    let b = leb-true byte 4 (right-true (ltb 0 byte) _ f) in
-    (p .0, p .1, omega arith))
-    (λ f h. absurd (let z : _≡_ {A = ℕ} 0 1 = cc in omega arith)))
-    (λ e h. absurd (let z : _≡_ {A = ℕ} 0 1 = cc in omega arith))
 
 module _ (t : List ℕ) (first last kind number : ℕ) where
   pub recorded-proper : Proper t → Proper (recorded t first last kind number)

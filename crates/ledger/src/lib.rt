@@ -4,6 +4,7 @@ ghost use Prim.Native.Nat.{_+_, _≤_};
 ghost use Rattle.rules.specs.Search.{any};
 ghost use Rattle.ledger.specs.Pairs.{put, assigned};
 ghost use Rattle.ledger.specs.Ledger.{empty, handler, taken, entered};
+use rules::Entered;
 
 // A byte for each pair: 0 for nobody, one more than the handler's number for a handler.
 pub type Ledger = [u8; 128];
@@ -12,15 +13,6 @@ pub type Ledger = [u8; 128];
 pub enum Lookup {
     Handler(u64),
     Nobody,
-}
-
-// What becomes of an entry.
-pub enum Entry {
-    Accepted,
-    // a number outside its range
-    OutOfRange,
-    // a pair that has a handler already
-    Taken,
 }
 
 // A ledger with no entry.
@@ -115,25 +107,25 @@ fn assign(t: &mut Ledger, kind: u64, first: u64, count: u64, number: u64)
 }
 
 // An entry is made for all its owners or for none.
-pub fn enter(t: &mut Ledger, first: u64, last: u64, kind: u64, number: u64) -> Entry
+pub fn enter(t: &mut Ledger, first: u64, last: u64, kind: u64, number: u64) -> Entered
     ensures { λ r. ⌜ (r, now (t .exit)) ≡ entered (now (t .entry)) first last kind number ⌝ }
 {
     if last < first {
-        return Entry::OutOfRange;
+        return Entered::OutOfRange;
     }
     if 63 < last {
-        return Entry::OutOfRange;
+        return Entered::OutOfRange;
     }
     if 1 < kind {
-        return Entry::OutOfRange;
+        return Entered::OutOfRange;
     }
     if 3 < number {
-        return Entry::OutOfRange;
+        return Entered::OutOfRange;
     }
     let count = last - first + 1;
     if any_taken(t, kind, first, count) {
-        return Entry::Taken;
+        return Entered::Taken;
     }
     assign(t, kind, first, count, number);
-    Entry::Accepted
+    Entered::Accepted
 }

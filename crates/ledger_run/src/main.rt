@@ -1,8 +1,14 @@
 // Tries entries on one ledger and looks pairs up in it, a line for each.
-use ledger::Entry;
 use ledger::Ledger;
 use ledger::Lookup;
 use libc::STDOUT_FILENO;
+use rules::Entered;
+
+// An entry of first and last owner, type and handler, or a lookup of type and owner.
+enum Step {
+    Enter(u64, u64, u64, u64),
+    Look(u32, u32),
+}
 
 fn say(text: &[u8]) {
     io::write_all(STDOUT_FILENO, text);
@@ -13,15 +19,19 @@ fn number(label: &[u8], n: u64) {
     io::print_decimal(STDOUT_FILENO, n);
 }
 
-fn enter(t: &mut Ledger, first: u64, last: u64, kind: u64, handler: u64) {
+fn say_entry(first: u64, last: u64, kind: u64, handler: u64) {
     number(b"owners ", first);
     number(b" to ", last);
     number(b", type ", kind);
     number(b", for handler ", handler);
+}
+
+fn enter(t: &mut Ledger, first: u64, last: u64, kind: u64, handler: u64) {
+    say_entry(first, last, kind, handler);
     match ledger::enter(t, first, last, kind, handler) {
-        Entry::Accepted => say(b": accepted\n"),
-        Entry::OutOfRange => say(b": out of range\n"),
-        Entry::Taken => say(b": taken\n"),
+        Entered::Accepted => say(b": accepted\n"),
+        Entered::OutOfRange => say(b": out of range\n"),
+        Entered::Taken => say(b": taken\n"),
     }
 }
 
@@ -35,46 +45,53 @@ fn look(t: &Ledger, kind: u32, owner: u32) {
     say(b"\n");
 }
 
-// Entries that name the same owners.
-fn overlap(t: &mut Ledger) {
-    enter(t, 4, 6, 1, 2);
-    look(t, 1, 4);
-    look(t, 1, 6);
+// The steps, in their order.
+const STEPS: [Step; 26] = [
+    Step::Look(1, 4),
+    // entries that name the same owners
+    Step::Enter(4, 6, 1, 2),
+    Step::Look(1, 4),
+    Step::Look(1, 6),
     // owner 6 is taken, so that 7 and 8 stay free
-    enter(t, 6, 8, 1, 3);
-    look(t, 1, 6);
-    look(t, 1, 7);
-    look(t, 1, 8);
-    enter(t, 7, 8, 1, 3);
-    look(t, 1, 7);
+    Step::Enter(6, 8, 1, 3),
+    Step::Look(1, 6),
+    Step::Look(1, 7),
+    Step::Look(1, 8),
+    Step::Enter(7, 8, 1, 3),
+    Step::Look(1, 7),
     // an entry around others, and one that was accepted before
-    enter(t, 0, 63, 1, 0);
-    look(t, 1, 0);
-    enter(t, 4, 6, 1, 2);
+    Step::Enter(0, 63, 1, 0),
+    Step::Look(1, 0),
+    Step::Enter(4, 6, 1, 2),
     // the same owners, for yielding calls
-    enter(t, 0, 63, 0, 3);
-    look(t, 0, 4);
-    look(t, 0, 63);
-}
-
-// Either side of each range.
-fn range(t: &mut Ledger) {
-    enter(t, 3, 2, 1, 0);
-    enter(t, 60, 64, 1, 0);
-    look(t, 1, 60);
-    enter(t, 60, 60, 2, 0);
-    enter(t, 60, 60, 1, 4);
+    Step::Enter(0, 63, 0, 3),
+    Step::Look(0, 4),
+    Step::Look(0, 63),
+    // either side of each range
+    Step::Enter(3, 2, 1, 0),
+    Step::Enter(60, 64, 1, 0),
+    Step::Look(1, 60),
+    Step::Enter(60, 60, 2, 0),
+    Step::Enter(60, 60, 1, 4),
     // out of range decides before taken
-    enter(t, 4, 64, 1, 2);
-    enter(t, 60, 63, 1, 3);
-    look(t, 1, 63);
-    look(t, 1, 64);
-    look(t, 2, 4);
+    Step::Enter(4, 64, 1, 2),
+    Step::Enter(60, 63, 1, 3),
+    Step::Look(1, 63),
+    Step::Look(1, 64),
+    Step::Look(2, 4),
+];
+
+fn play(t: &mut Ledger, step: Step) {
+    match step {
+        Step::Enter(first, last, kind, handler) => enter(t, first, last, kind, handler),
+        Step::Look(kind, owner) => look(t, kind, owner),
+    }
 }
 
 fn main() {
     let mut t = ledger::fresh();
-    look(&t, 1, 4);
-    overlap(&mut t);
-    range(&mut t);
+    let steps = STEPS;
+    for i in 0..26 {
+        play(&mut t, steps[i]);
+    }
 }

@@ -2,18 +2,18 @@
 use mathlib.Core.Path.{_≡_, refl, sym, ap, _∙_}
 use mathlib.Core.Bool.{Bool}
 use mathlib.Core.List.{List, [], _∷_, _++_, map}
-use Prim.Native.Nat.{ℕ, suc, _+_, _-_, _≤_, _<_}
+use Prim.Native.Nat.{ℕ, suc, _+_, _≤_, _<_}
 use native.Mathlib.Omega.{arith}
 use lib.Dec.{ltb}
 use lib.ListN.{length, take, drop, length-append}
 use lib.Seq.{length-take-le, getD-take}
 use borrow.Author.Tests.{ne-eqb, ltb-true, ltb-false}
 use Rattle.rules.specs.Choice.{pick, by}
-use Rattle.lines.specs.Frame.{isCall, numbersOf, parsed, long-line, short-parsed, parsed-frame, parsed-call}
-use Rattle.lines.specs.Lines.{linesOf, before, endOf, lineAt, lined, nextOf, Unbroken, lines-first, lines-last, lines-closed, lines-at, end-from}
-use Rattle.lines.specs.declared.Status.the-variants.{NoHex}
-use Rattle.lines.specs.declared.Frame.{Frame}
-use Rattle.lines.specs.declared.Frame.the-variants.{Refused}
+use Rattle.parsing.specs.Frame.{isCall, numbersOf, parsed, long-line, other-parsed, parsed-frame, parsed-call}
+use Rattle.lines.specs.Lines.{linesOf, before, endOf, lineAt, lined, nextOf, Unbroken, lines-last, lines-closed, lines-at, end-from}
+use Rattle.parsing.specs.declared.Status.the-variants.{NoHex}
+use Rattle.parsing.specs.declared.Frame.{Frame}
+use Rattle.parsing.specs.declared.Frame.the-variants.{Refused}
 use Rattle.lines.specs.declared.Next.{Next}
 use Rattle.lines.specs.declared.Next.the-variants.{Line, Unfinished}
 
@@ -111,7 +111,7 @@ lines-joined (b ∷ c ∷ p) s u n =
 
 -- a line of more than 132 bytes is refused, whatever they are
 long-reading : (l : List ℕ) → 132 < length l → reading l ≡ (Refused NoHex, [])
-long-reading l h = sym (short-parsed l [] (Refused NoHex) (λ z. omega arith) (long-line l h))
+long-reading l h = sym (other-parsed l [] (Refused NoHex) (long-line l h) refl)
 
 same-reading : (p q : List ℕ) (ls : List (List ℕ)) → 132 < length p → 132 < length q → map reading (joined p ls) ≡ map reading (joined q ls)
 unfolding joined

@@ -1,12 +1,6 @@
-pub mod Hex
-pub mod Frame
+pub mod Quick
 pub mod Lines
 pub mod Input
-pub mod Carry
-pub mod Marks
-pub mod Rows
-pub mod Packed
-pub mod Signs
-pub mod Whole
+pub mod Front
 pub mod Parts
 pub mod Cases

@@ -12,11 +12,13 @@ use lib.Seq.{split-at, length-take-le, getD-take, getD-drop, drop-drop}
 use borrow.Author.Tests.{lt-ltb, le-ltb, eq-eqb, ne-eqb, eqb-true, eqb-false, ltb-true, ltb-false}
 use Rattle.rules.specs.Choice.{pick, picked, passed, either, yes-or-no}
 use Rattle.rules.specs.Search.{all-at, first, first-goes, first-stops, first-ends, first-is, Firstly}
-use Rattle.lines.specs.Hex.{digitOf, digitAt, allDigits}
-use Rattle.lines.specs.Frame.{isCall, parsed, parsed-digits}
-use Rattle.lines.specs.Whole.{quick, quick-call, quick-same}
-use Rattle.lines.specs.declared.Frame.{Frame}
-use Rattle.lines.specs.declared.Frame.the-variants.{Call}
+use Rattle.hex.specs.Hex.{digitOf, digitAt, allDigits}
+use Rattle.parsing.specs.Frame.{parsed, parsed-digits}
+use Rattle.lines.specs.Quick.{Seen}
+use Rattle.parsing.specs.declared.Frame.{Frame}
+use Rattle.parsing.specs.declared.Frame.the-variants.{Call}
+use Rattle.lines.specs.declared.Look.{Look}
+use Rattle.lines.specs.declared.Look.the-variants as Look
 use Rattle.lines.specs.declared.Next.{Next}
 use Rattle.lines.specs.declared.Next.the-variants.{Line, Unfinished}
 
@@ -131,25 +133,18 @@ digits-no-newline l k d h e =
     yes-or-no (digitAt l k) y (rw e)
 
 -- ---- a call, known by the newline after 132 signs
-module _ (s xs ys : List ℕ) (at e : ℕ) (f : Frame) (n : e ≡ at + 132) (p : (f, ys) ≡ parsed (part s at e) xs) where
-  pub next-call : e < length s → getD s e 0 ≡ 10 → isCall f ≡ true → (Line f (e + 1), ys) ≡ nextOf s at xs
-  next-call h g c =
-      let d = parsed-digits (part s at e) xs ys f p c in
+module _ (s xs ys : List ℕ) (at e : ℕ) (look : Look) (n : e ≡ at + 132) (h : e < length s) (q : Seen (part s at e) xs look ys) where
+  pub next-quick : (core : ℕ) → look ≡ Look.Call core → getD s e 0 ≡ 10 → (Line (Call core) (e + 1), ys) ≡ nextOf s at xs
+  next-quick core c g =
+      let p : (Call core, ys) ≡ parsed (part s at e) xs = rw c at q in
+      let d = parsed-digits (part s at e) xs ys (Call core) p refl in
       let m = part-length s at e (omega arith) (omega arith) in
-      next-found s xs at e f ys
+      next-found s xs at e (Call core) ys
       (end-is s at e (omega arith) h g (λ k a b z. digits-no-newline (part s at e) (k - at) d (omega arith) (part-at s at e k a b ∙ z)))
       h p
 
--- the same by what was read at once
-module _ (s xs ys : List ℕ) (at e k : ℕ) (n : e ≡ at + 132) (h : e < length s) (q : (k, ys) ≡ quick (part s at e) xs) where
-  sized : length (part s at e) ≡ 132
-  sized = part-length s at e (omega arith) (omega arith) ∙ omega arith
-
-  pub next-quick : getD s e 0 ≡ 10 → k < 256 → (Line (Call k) (e + 1), ys) ≡ nextOf s at xs
-  next-quick g c = next-call s xs ys at e (Call k) n (quick-call (part s at e) xs ys k sized q c) h g refl
-
-  pub next-slow : (r : Next × List ℕ) → 256 ≤ k → r ≡ nextOf s at ys → r ≡ nextOf s at xs
-  next-slow r c g = g ∙ ap (nextOf s at) (quick-same (part s at e) xs ys k sized q c)
+  pub next-slow : (r : Next × List ℕ) → look ≡ Look.NoCall → r ≡ nextOf s at ys → r ≡ nextOf s at xs
+  next-slow r c g = let p : ys ≡ xs = rw c at q in g ∙ ap (nextOf s at) p
 
 -- ---- the lines of an input, one after the other
 -- no newline in it

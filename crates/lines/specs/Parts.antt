@@ -7,7 +7,7 @@ use lib.Dec.{eqb}
 use Rattle.rules.specs.Choice.{pick, either, yes-or-no}
 use Rattle.lines.specs.Lines.{before, linesOf}
 use Rattle.lines.specs.Input.{reading, readings}
-use Rattle.lines.specs.declared.Frame.{Frame}
+use Rattle.parsing.specs.declared.Frame.{Frame}
 
 -- one of the bytes is a newline
 unfoldable pub broken : List ℕ → Bool

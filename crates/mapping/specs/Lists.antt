@@ -1,35 +1,30 @@
 -- The mappings that each world holds, how one is put among them and how one is taken out. Shut: the laws say the rest.
-use mathlib.Core.Path.{_≡_, refl, sym, ap, _∙_, fun-ext}
-use mathlib.Core.Bool.{Bool, true, false}
+use mathlib.Core.Path.{_≡_, refl, sym, ap, _∙_}
+use mathlib.Core.Bool.{true, false}
 use mathlib.Core.List.{List, []}
 use mathlib.Core.Option.{none, some}
 use Prim.Native.Nat.{ℕ, _+_, _-_, _*_, _%_, _^_, _≤_, _<_}
 use native.Mathlib.Omega.{arith}
-use lib.Dec.{ltb, eqb}
+use lib.Dec.{ltb}
 use lib.ListN.{length}
-use borrow.Author.Tests.{lt-ltb, le-ltb, le-leb, lt-leb, ne-eqb, ltb-true, ltb-false, eqb-true, eqb-false}
+use borrow.Author.Tests.{lt-ltb, le-ltb, le-leb, lt-leb, ne-eqb, ltb-true, ltb-false}
 use Rattle.rules.specs.Choice.{either, yes-or-no}
-use Rattle.rules.specs.Search.{first}
-use Rattle.pages.specs.Sizes.{pageSize}
-use Rattle.mapping.specs.Sizes.{places, worlds}
+use Rattle.rules.specs.Sizes.{worlds, pageSize, mostMappings}
 use Rattle.mapping.specs.Mapping.{onPages, anyOf, firstOf, clash, isFull, hasExactly, meetsRun, deciding, leading, leadOf, without}
 use Rattle.mapping.specs.Entries.{Inserted, first-missing, without-missing, deciding-low}
-use Rattle.mapping.specs.Question.{asksFree, asks, answers}
-use Rattle.mapping.specs.Places.{gathered, lowest, lowest-any, lowest-none, lowest-first, lowest-free, room-left, none-left, filled-in, removed, gathered-same, gathered-none, gathered-some, gathered-most}
-pub use Rattle.mapping.specs.Table.{unmapped, WholeLists, unmapped-whole}
-use Rattle.mapping.specs.Table.{blank, place, stored, stored-whole, stored-same, stored-other, stored-alike, place-no-world, stored-no-world, stored-no-place, unmapped-blank}
-use Rattle.mapping.specs.declared.Mapping.{Mapping}
+use Rattle.ranges.specs.Question.{asksFree, asks}
+use Rattle.mapping.specs.Places.{gathered, lowest, lowest-any, lowest-none, lowest-first, lowest-free, room-left, none-left, filled-in, removed, gathered-same, gathered-none, gathered-some}
+pub use Rattle.places.specs.Table.{unmapped, WholeLists, unmapped-whole}
+use Rattle.places.specs.Found.{found}
+use Rattle.places.specs.Table.{blank, place, stored, stored-whole, stored-same, stored-other, place-no-world, stored-no-place, unmapped-blank}
+use Rattle.ranges.specs.declared.Mapping.{Mapping}
 use Rattle.mapping.specs.declared.Lead.the-variants.{To, Nowhere}
-use Rattle.mapping.specs.declared.Question.{Question}
-use Rattle.mapping.specs.declared.Question.the-variants.{Free, Exact, OnPages, OnRange, Holds, Clashes}
-
--- the lowest place of the world that answers the question, or 16
-pub found : List ℕ → ℕ → Question → ℕ
-found t w q = lowest (place t w) q places
+use Rattle.ranges.specs.declared.Question.{Question}
+use Rattle.ranges.specs.declared.Question.the-variants.{Free, Exact, OnPages, OnRange, Holds, Clashes}
 
 -- the mappings that the world holds, in the order of their places
 pub held : List ℕ → ℕ → List Mapping
-held t w = gathered (place t w) 0 places
+held t w = gathered (place t w) 0 mostMappings
 
 -- the mapping put at the world's lowest free place; nothing changes where none is free
 pub holding : List ℕ → ℕ → Mapping → List ℕ
@@ -39,75 +34,62 @@ holding t w m = stored t w (found t w Free) m
 pub released : List ℕ → ℕ → ℕ → ℕ → List ℕ
 released t w v s = stored t w (found t w (Exact v s)) blank
 
--- what the code's search asks of each place
-abbrev pub asked : List ℕ → ℕ → Question → ℕ → Bool
-asked t w q i = answers q (place t w i)
-
-module _ (t : List ℕ) (w : ℕ) (q : Question) where
-  pub found-is : found t w q ≡ first (asked t w q) 0 places
-  unfolding found lowest
-  found-is = refl
-
--- what a place read by the code was asked, and answered
-pub asked-so : (t : List ℕ) (w : ℕ) (q : Question) (i : ℕ) (m : Mapping) (r b : Bool) → m ≡ place t w i → r ≡ answers q m → r ≡ b → asked t w q i ≡ b
-asked-so t w q i m r b e f g = rw (← e, ← f) g
-
 -- ---- the place found, and what the list of the held mappings says
 module _ (t : List ℕ) (w : ℕ) (q : Question) (o : asksFree q ≡ false) where
-  found-any : ltb (found t w q) places ≡ anyOf (asks q) (held t w)
-  unfolding found held
+  found-any : ltb (found t w q) mostMappings ≡ anyOf (asks q) (held t w)
+  unfolding found lowest held
   found-any =
-      either (ltb (found t w q) places) (λ y. y ∙ sym (lowest-any (place t w) q places o (ltb-true _ _ y)))
-      (λ n. n ∙ sym (lowest-none (place t w) q places o (ltb-false _ _ n)))
+      either (ltb (found t w q) mostMappings) (λ y. y ∙ sym (lowest-any (place t w) q mostMappings o (ltb-true _ _ y)))
+      (λ n. n ∙ sym (lowest-none (place t w) q mostMappings o (ltb-false _ _ n)))
 
-  found-none : places ≤ found t w q → firstOf (asks q) (held t w) ≡ none
-  unfolding found held
-  found-none h = first-missing (asks q) (gathered (place t w) 0 places) (lowest-none (place t w) q places o h)
+  found-none : mostMappings ≤ found t w q → firstOf (asks q) (held t w) ≡ none
+  unfolding found lowest held
+  found-none h = first-missing (asks q) (gathered (place t w) 0 mostMappings) (lowest-none (place t w) q mostMappings o h)
 
-  found-first : found t w q < places → firstOf (asks q) (held t w) ≡ some (place t w (found t w q))
-  unfolding found held
-  found-first h = lowest-first (place t w) q places o h
+  found-first : found t w q < mostMappings → firstOf (asks q) (held t w) ≡ some (place t w (found t w q))
+  unfolding found lowest held
+  found-first h = lowest-first (place t w) q mostMappings o h
 
 module _ (t : List ℕ) (w k : ℕ) where
-  pub has-is : (v s : ℕ) → k ≡ found t w (Exact v s) → ltb k places ≡ hasExactly (held t w) v s
+  pub has-is : (v s : ℕ) → k ≡ found t w (Exact v s) → ltb k mostMappings ≡ hasExactly (held t w) v s
   unfolding asksFree asks hasExactly
   has-is v s e = rw e (found-any t w (Exact v s) refl)
 
-  pub meets-is : (a n : ℕ) → k ≡ found t w (OnPages a n) → ltb k places ≡ meetsRun (held t w) a n
+  pub meets-is : (a n : ℕ) → k ≡ found t w (OnPages a n) → ltb k mostMappings ≡ meetsRun (held t w) a n
   unfolding asksFree asks meetsRun
   meets-is a n e = rw e (found-any t w (OnPages a n) refl)
 
   -- the same by the bytes of the run
-  pub meets-bytes : (a n s : ℕ) → k ≡ found t w (OnRange a s) → s ≡ n * pageSize → ltb k places ≡ meetsRun (held t w) a n
+  pub meets-bytes : (a n s : ℕ) → k ≡ found t w (OnRange a s) → s ≡ n * pageSize → ltb k mostMappings ≡ meetsRun (held t w) a n
   unfolding asksFree asks meetsRun onPages
   meets-bytes a n s e f = rw (e, f) (found-any t w (OnRange a (n * pageSize)) refl)
 
   module _ (m : Mapping) (e : k ≡ found t w (Clashes m)) where
-    clash-is : ltb k places ≡ clash (held t w) m
+    clash-is : ltb k mostMappings ≡ clash (held t w) m
     unfolding asksFree asks clash
     clash-is = rw e (found-any t w (Clashes m) refl)
 
-    pub clash-yes : k < places → clash (held t w) m ≡ true
-    clash-yes h = sym clash-is ∙ lt-ltb k places h
+    pub clash-yes : k < mostMappings → clash (held t w) m ≡ true
+    clash-yes h = sym clash-is ∙ lt-ltb k mostMappings h
 
-    pub clash-no : places ≤ k → clash (held t w) m ≡ false
-    clash-no h = sym clash-is ∙ le-ltb k places h
+    pub clash-no : mostMappings ≤ k → clash (held t w) m ≡ false
+    clash-no h = sym clash-is ∙ le-ltb k mostMappings h
 
   module _ (e : k ≡ found t w Free) where
-    pub full-yes : places ≤ k → isFull (held t w) ≡ true
-    unfolding found held isFull
-    full-yes h = le-leb places (length (held t w)) (omega (arith, none-left (place t w) places (rw e at h)))
+    pub full-yes : mostMappings ≤ k → isFull (held t w) ≡ true
+    unfolding found lowest held isFull
+    full-yes h = le-leb mostMappings (length (held t w)) (omega (arith, none-left (place t w) mostMappings (rw e at h)))
 
-    pub full-no : k < places → isFull (held t w) ≡ false
-    unfolding found held isFull
-    full-no h = lt-leb places (length (held t w)) (room-left (place t w) places (rw e at h))
+    pub full-no : k < mostMappings → isFull (held t w) ≡ false
+    unfolding found lowest held isFull
+    full-no h = lt-leb mostMappings (length (held t w)) (room-left (place t w) mostMappings (rw e at h))
 
   module _ (x : ℕ) (e : k ≡ found t w (Holds x)) where
-    pub leads-nowhere : places ≤ k → Nowhere ≡ leadOf (held t w) x
+    pub leads-nowhere : mostMappings ≤ k → Nowhere ≡ leadOf (held t w) x
     unfolding asksFree asks leadOf deciding leading
     leads-nowhere h = rw (found-none t w (Holds x) refl (rw e at h))
 
-    module _ (m : Mapping) (h : k < places) (f : m ≡ place t w k) where
+    module _ (m : Mapping) (h : k < mostMappings) (f : m ≡ place t w k) where
       leads-by : deciding (held t w) x ≡ some m
       unfolding asksFree asks deciding
       leads-by = found-first t w (Holds x) refl (rw e at h) ∙ ap some (ap (place t w) (sym e) ∙ sym f)
@@ -136,24 +118,20 @@ pub ruleset list-laws = (has-is, meets-is, meets-bytes, leads-nowhere, leads-fro
 -- no world holds anything at first, and a world that is none never does
 pub held-unmapped : (w : ℕ) → held unmapped w ≡ []
 unfolding held
-held-unmapped w = gathered-none (place unmapped w) 0 places (λ i h l. rw (unmapped-blank w i))
+held-unmapped w = gathered-none (place unmapped w) 0 mostMappings (λ i h l. rw (unmapped-blank w i))
 
 pub held-no-world : (t : List ℕ) (w : ℕ) → worlds ≤ w → held t w ≡ []
 unfolding held
-held-no-world t w h = gathered-none (place t w) 0 places (λ i k l. rw (← place-no-world w i t blank refl h))
+held-no-world t w h = gathered-none (place t w) 0 mostMappings (λ i k l. rw (← place-no-world w i t blank refl h))
 
 pub held-some : (t : List ℕ) (w v : ℕ) → hasExactly (held t w) v 0 ≡ false
 unfolding held
-held-some t w v = gathered-some (place t w) 0 places v
-
-pub held-most : (t : List ℕ) (w : ℕ) → length (held t w) ≤ places
-unfolding held
-held-most t w = gathered-most (place t w) 0 places
+held-some t w v = gathered-some (place t w) 0 mostMappings v
 
 -- a store leaves the other worlds' mappings
 stored-elsewhere : (t : List ℕ) (w i : ℕ) (m : Mapping) (u : ℕ) → (u ≡ w → ⊥) → held (stored t w i m) u ≡ held t u
 unfolding held
-stored-elsewhere t w i m u d = gathered-same (place (stored t w i m) u) (place t u) 0 places (λ j h l. stored-other t w i m u j (λ e f. d e))
+stored-elsewhere t w i m u d = gathered-same (place (stored t w i m) u) (place t u) 0 mostMappings (λ j h l. stored-other t w i m u j (λ e f. d e))
 
 module _ (t : List ℕ) (w : ℕ) (m : Mapping) where
   pub holding-whole : WholeLists t → WholeLists (holding t w m)
@@ -165,24 +143,13 @@ module _ (t : List ℕ) (w : ℕ) (m : Mapping) where
   holding-other u d = stored-elsewhere t w (found t w Free) m u d
 
   -- where the world has room, the mapping is put in among those that it holds
-  pub holding-inserts : WholeLists t → w < worlds → (m .size ≡ 0 → ⊥) → length (held t w) < places → Inserted m (held t w) (held (holding t w m) w)
-  unfolding holding held found
+  pub holding-inserts : WholeLists t → w < worlds → (m .size ≡ 0 → ⊥) → length (held t w) < mostMappings → Inserted m (held t w) (held (holding t w m) w)
+  unfolding holding held found lowest
   holding-inserts h k d r =
-      let i = lowest (place t w) Free places in
-      let l : i < places = either (ltb i places) (ltb-true _ _) (λ n. absurd (omega (arith, none-left (place t w) places (ltb-false _ _ n)))) in
+      let i = lowest (place t w) Free mostMappings in
+      let l : i < mostMappings = either (ltb i mostMappings) (ltb-true _ _) (λ n. absurd (omega (arith, none-left (place t w) mostMappings (ltb-false _ _ n)))) in
       let s : place (stored t w i m) w i ≡ m = stored-same t w i m h k l in
-      (rw s at (filled-in (place t w) (place (stored t w i m) w) places i l (λ j e. stored-other t w i m w j (λ _ f. e f)) (lowest-free (place t w) places l) (rw s (ne-eqb _ _ d))))
-
-  -- where it has none, nothing changes
-  pub holding-full : places ≤ length (held t w) → holding t w m ≡ t
-  unfolding holding held found
-  holding-full h =
-      let i = lowest (place t w) Free places in
-      sym (stored-no-place w i t m (either (ltb i places) (λ y. absurd (omega (arith, room-left (place t w) places (ltb-true _ _ y)))) (ltb-false _ _)))
-
-  pub holding-no-world : worlds ≤ w → holding t w m ≡ t
-  unfolding holding
-  holding-no-world h = sym (stored-no-world w (found t w Free) t m h)
+      (rw s at (filled-in (place t w) (place (stored t w i m) w) mostMappings i l (λ j e. stored-other t w i m w j (λ _ f. e f)) (lowest-free (place t w) mostMappings l) (rw s (ne-eqb _ _ d))))
 
 module _ (t : List ℕ) (w v s : ℕ) where
   none-exact : hasExactly [] v s ≡ false
@@ -204,70 +171,12 @@ module _ (t : List ℕ) (w v s : ℕ) where
 
   -- the first mapping of exactly this start and size is taken out
   pub released-takes : WholeLists t → held (released t w v s) w ≡ without (held t w) v s
-  unfolding released held found
+  unfolding released held found lowest
   released-takes h =
-      let i = lowest (place t w) (Exact v s) places in
+      let i = lowest (place t w) (Exact v s) mostMappings in
       either (hasExactly (held t w) v s)
       (λ y. let k : w < worlds = either (ltb w worlds) (ltb-true _ _) (λ n. absurd (yes-or-no _ y (rw (held-no-world t w (ltb-false _ _ n)) none-exact))) in
-      let l : i < places = ltb-true _ _ (has-is t w i v s refl ∙ y) in
+      let l : i < mostMappings = ltb-true _ _ (has-is t w i v s refl ∙ y) in
       let b : place (stored t w i blank) w i ≡ blank = stored-same t w i blank h k l in
-      removed (place t w) (place (stored t w i blank) w) places v s l (λ j e. stored-other t w i blank w j (λ _ f. e f)) (rw b))
+      removed (place t w) (place (stored t w i blank) w) mostMappings v s l (λ j e. stored-other t w i blank w j (λ _ f. e f)) (rw b))
       (λ n. rw (released-none n, without-missing v s (held t w) n))
-
-  pub released-no-world : worlds ≤ w → released t w v s ≡ t
-  unfolding released
-  released-no-world h = sym (stored-no-world w (found t w (Exact v s)) t blank h)
-
--- ---- two tables, alike at the places of a world
-pub Alike : ℕ → List ℕ → List ℕ → Type 0
-Alike u t q = (i : ℕ) → place t u i ≡ place q u i
-
-module _ (u : ℕ) (t q : List ℕ) where
-  pub alike-held : Alike u t q → held t u ≡ held q u
-  unfolding Alike held
-  alike-held a = gathered-same (place t u) (place q u) 0 places (λ i h l. a i)
-
-  pub alike-sym : Alike u t q → Alike u q t
-  unfolding Alike
-  alike-sym a i = sym (a i)
-
-  pub alike-trans : (r : List ℕ) → Alike u t q → Alike u q r → Alike u t r
-  unfolding Alike
-  alike-trans r a b i = a i ∙ b i
-
-  alike-found : (x : Question) → Alike u t q → found t u x ≡ found q u x
-  unfolding Alike found
-  alike-found x a = ap (λ (f : ℕ → Mapping). lowest f x places) (fun-ext a)
-
-  -- one store at the place that both find keeps them alike
-  alike-stored : (w : ℕ) (x : Question) (m : Mapping) → WholeLists t → WholeLists q → Alike u t q → Alike u (stored t w (found t w x) m) (stored q w (found q w x) m)
-  unfolding Alike
-  alike-stored w x m ht hq a i =
-      either (eqb u w)
-      (λ y. let e : u ≡ w = eqb-true _ _ y in
-      let k : found t w x ≡ found q w x = rw e at (alike-found x a) in
-      rw k (stored-alike t q w (found q w x) m u i ht hq (a i)))
-      (λ n. let d : u ≡ w → ⊥ = eqb-false _ _ n in
-      stored-other t w (found t w x) m u i (λ e _. d e) ∙ a i ∙ sym (stored-other q w (found q w x) m u i (λ e _. d e)))
-
-  pub alike-holding : (w : ℕ) (m : Mapping) → WholeLists t → WholeLists q → Alike u t q → Alike u (holding t w m) (holding q w m)
-  unfolding holding
-  alike-holding w m = alike-stored w Free m
-
-  pub alike-released : (w v s : ℕ) → WholeLists t → WholeLists q → Alike u t q → Alike u (released t w v s) (released q w v s)
-  unfolding released
-  alike-released w v s = alike-stored w (Exact v s) blank
-
-pub alike-same : (u : ℕ) (t : List ℕ) → Alike u t t
-unfolding Alike
-alike-same u t i = refl
-
--- a change of one world's mappings leaves a table alike at the places of the others
-module _ (t : List ℕ) (u w : ℕ) (d : u ≡ w → ⊥) where
-  pub other-holding : (m : Mapping) → Alike u (holding t w m) t
-  unfolding Alike holding
-  other-holding m i = stored-other t w (found t w Free) m u i (λ e _. d e)
-
-  pub other-released : (v s : ℕ) → Alike u (released t w v s) t
-  unfolding Alike released
-  other-released v s i = stored-other t w (found t w (Exact v s)) blank u i (λ e _. d e)

@@ -1,50 +1,28 @@
--- Mappings, and lists of them: which meet, which decides an address, where the address leads, and how a new one is judged.
+-- Lists of mappings: which meet, which decides an address, where the address leads, and how a new one is judged.
 use mathlib.Core.Path.{_≡_}
-use mathlib.Core.Bool.{Bool, true, false, not, _&&_, _||_}
+use mathlib.Core.Bool.{Bool, false, not, _||_}
 use mathlib.Core.List.{List, [], _∷_}
 use mathlib.Core.Option.{Option, none, some}
-use Prim.Native.Nat.{ℕ, _+_, _-_, _*_, _/_, _%_, _^_}
-use lib.Dec.{ltb, leb, eqb}
+use Prim.Native.Nat.{ℕ, _+_, _-_, _/_, _%_, _^_}
+use lib.Dec.{leb, eqb}
 use lib.ListN.{length}
+use Rattle.rules.specs.Sizes.{pageSize, mostMappings}
 use Rattle.rules.specs.Choice.{pick}
 use Rattle.rules.specs.Tests.{Test, refuses, sieve}
 use Rattle.rules.specs.declared.Reason.{Reason}
 use Rattle.rules.specs.declared.Reason.the-variants.{Malformed, Beyond, Full, Overlap, NotOwned}
-use Rattle.pages.specs.Sizes.{pageSize}
-use Rattle.pages.specs.Window.{runOf}
 use Rattle.pages.specs.Owners.{owned}
 use Rattle.pages.specs.declared.Window.{Window}
 use Rattle.pages.specs.declared.Place.{Place}
 use Rattle.pages.specs.declared.Place.the-variants.{Page, Outside}
-use Rattle.mapping.specs.Sizes.{places, virtualLimit, lastAttributes}
-use Rattle.mapping.specs.Ranges.{within, meet}
-use Rattle.mapping.specs.declared.Mapping.{Mapping}
+use Rattle.ranges.specs.declared.Mapping.{Mapping}
+unfoldable pub use Rattle.ranges.specs.Mapping.{exact, onPages, holds, clashes, malformed, beyond}
+pub use Rattle.ranges.specs.Mapping.{unaligned}
+use Rattle.ranges.specs.Mapping.{pagesOf}
 use Rattle.mapping.specs.declared.Lead.{Lead}
 use Rattle.mapping.specs.declared.Lead.the-variants.{To, Nowhere}
 use Rattle.mapping.specs.declared.Verdict.{Verdict}
 use Rattle.mapping.specs.declared.Verdict.the-variants.{Granted, Nothing, No}
-
--- ---- what is asked of a mapping
-
--- it has exactly this start and size
-unfoldable pub exact : ℕ → ℕ → Mapping → Bool
-exact v s m = eqb (m .virt) v && eqb (m .size) s
-
--- its physical range meets this one
-abbrev pub onRange : ℕ → ℕ → Mapping → Bool
-onRange start size m = meet start size (m .phys) (m .size)
-
--- its physical range meets the run of pages
-unfoldable pub onPages : ℕ → ℕ → Mapping → Bool
-onPages start count m = onRange start (count * pageSize) m
-
--- the virtual address lies in it
-unfoldable pub holds : ℕ → Mapping → Bool
-holds x m = within x (m .virt) (m .size)
-
--- the two meet, in virtual or in physical addresses
-unfoldable pub clashes : Mapping → Mapping → Bool
-clashes n m = meet (n .virt) (n .size) (m .virt) (m .size) || meet (n .phys) (n .size) (m .phys) (m .size)
 
 -- ---- what is asked of a list
 
@@ -89,29 +67,9 @@ leadOf l x = leading x (deciding l x)
 
 -- ---- how a new mapping is judged
 
--- not a multiple of 4096
-abbrev pub unaligned : ℕ → Bool
-unaligned x = not (eqb (x % pageSize) 0)
-
--- a start or the size is no whole number of pages, or there are no such attributes
-unfoldable pub malformed : Mapping → Bool
-malformed m = unaligned (m .virt) || (unaligned (m .phys) || (unaligned (m .size) || ltb lastAttributes (m .attr)))
-
--- where its physical pages lie
-abbrev pub pagesOf : Window → Mapping → Place
-pagesOf w m = runOf w (m .phys) (m .size / pageSize)
-
-unfoldable pub isOutside : Place → Bool
-isOutside (Page first) = false
-isOutside Outside = true
-
--- it reaches past the window, or past the last virtual address
-unfoldable pub beyond : Window → Mapping → Bool
-beyond w m = isOutside (pagesOf w m) || ltb virtualLimit (m .virt + m .size)
-
 -- sixteen are held
 unfoldable pub isFull : List Mapping → Bool
-isFull l = leb places (length l)
+isFull l = leb mostMappings (length l)
 
 -- the world owns each of the pages
 unfoldable pub ownsRun : List ℕ → ℕ → ℕ → Place → Bool
@@ -134,25 +92,14 @@ mapTests l o w world m =
 unfoldable pub mapVerdict : List Mapping → List ℕ → Window → ℕ → Mapping → Verdict
 mapVerdict l o w world m = pick (eqb (m .size) 0) Nothing (sieve No (mapTests l o w world m) Granted)
 
--- ---- how the code's tests meet these
-
--- the place of the mapping's pages
-module _ (k : Place) (w : Window) (m : Mapping) (said : k ≡ pagesOf w m) where
-  pub beyond-window : k ≡ Outside → true ≡ beyond w m
-  unfolding beyond isOutside
-  beyond-window e = rw (← said, e)
-
-  pub owns-none : (o : List ℕ) (world : ℕ) → k ≡ Outside → false ≡ ownsPages o w world m
+-- ---- how the code's test meets this: by the place of the mapping's pages
+module _ (k : Place) (w : Window) (m : Mapping) (said : k ≡ pagesOf w m) (o : List ℕ) (world : ℕ) where
+  pub owns-none : k ≡ Outside → false ≡ ownsPages o w world m
   unfolding ownsPages ownsRun
-  owns-none o world e = rw (← said, e)
+  owns-none e = rw (← said, e)
 
-  module _ (first : ℕ) (r : Bool) (e : k ≡ Page first) where
-    pub beyond-end : r ≡ ltb virtualLimit (m .virt + m .size) → r ≡ beyond w m
-    unfolding beyond isOutside
-    beyond-end h = rw (← said, e) h
+  pub owns-all : (first : ℕ) (r : Bool) → k ≡ Page first → r ≡ owned o first (m .size / pageSize) world → r ≡ ownsPages o w world m
+  unfolding ownsPages ownsRun
+  owns-all first r e h = rw (← said, e) h
 
-    pub owns-all : (o : List ℕ) (world : ℕ) → r ≡ owned o first (m .size / pageSize) world → r ≡ ownsPages o w world m
-    unfolding ownsPages ownsRun
-    owns-all o world h = rw (← said, e) h
-
-pub ruleset page-tests = (beyond-window, beyond-end, owns-none, owns-all)
+pub ruleset owner-tests = (owns-none, owns-all)

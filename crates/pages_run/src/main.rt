@@ -1,4 +1,19 @@
-// Maps, unmaps and moves pages at the edges of the rules: a line for each step, its name and the paper's number for the answer.
+// Maps, unmaps and moves pages at the edges of the rules. Each line of the input is a step: its kind, four hexadecimal numbers
+// and its name. The program writes the name and the paper's number for the answer.
+//
+// o BASE PAGES 0 0: a window, in which every page is Root's and nothing is mapped
+// g FIRST COUNT WORLD 0: pages given, with no test
+// w BASE PAGES 0 0: whether there may be such a window, 1 or 0
+// m WORLD PHYSICAL VIRTUAL SIZE: a mapping that may be written to
+// u WORLD VIRTUAL SIZE 0: its end
+// t FROM TO START COUNT: a transfer of pages
+// p PAGE 0 0 0: the page's owner
+//
+// The first two have no name, and nothing is written of them.
+ghost use mathlib.Core.Path.{_≡_};
+ghost use Prim.Native.Nat.{_+_, _≤_, _<_};
+ghost use lib.ListN.{length};
+use libc::STDIN_FILENO;
 use libc::STDOUT_FILENO;
 use mapping::Lists;
 use mapping::Mapping;
@@ -6,76 +21,158 @@ use pages::Owners;
 use pages::Window;
 use rules::Reason;
 
-const PAGE: u64 = 4096;
+// What a line asks for, and where its name begins.
+struct Step {
+    kind: u8,
+    a: u64,
+    b: u64,
+    c: u64,
+    d: u64,
+    next: usize,
+}
 
-const SECURE: u64 = 1;
+// A number that was read, and where the next one begins.
+struct Seen {
+    value: u64,
+    next: usize,
+}
 
-const NORMAL: u64 = 2;
-
-const REALM: u64 = 3;
-
-// The last virtual page, which ends at 2^32.
-const LAST_VIRTUAL: u64 = 0xFFFFF000;
-
-// The first and the last page of the highest window, of 4096 pages to 2^48.
-const HIGH: u64 = 0xFFFFFF000000;
-
-const HIGH_LAST: u64 = 0xFFFFFFFFF000;
-
-// The start of the small windows.
-const LOW: u64 = 0x80000000;
-
-// The last page that 64 bits can name, 2^64 - 4096.
-const LAST_OF_ALL: u64 = 0xFFFFFFFFFFFFF000;
+// What came of a step.
+enum Answer {
+    Number(u64),
+    Refused(Reason),
+}
 
 fn say(text: &[u8]) {
     io::write_all(STDOUT_FILENO, text);
 }
 
-fn answer(n: u64) {
-    say(b": ");
+fn number(sign: &[u8], n: u64) {
+    say(sign);
     io::print_decimal(STDOUT_FILENO, n);
     say(b"\n");
 }
 
-fn refuse(r: Reason) {
-    say(b": -");
-    io::print_decimal(STDOUT_FILENO, rules::minus_of(r));
-    say(b"\n");
+fn say_answer(a: Answer) {
+    match a {
+        Answer::Number(n) => number(b": ", n),
+        Answer::Refused(r) => number(b": -", rules::minus_of(r)),
+    }
 }
 
-// Whether there may be such a window: 1, else 0.
-fn window(base: u64, pages: u64) {
+// The value of a hexadecimal digit, 16 for any other sign.
+fn digit(sign: u8) -> u64
+    ensures { λ r. ⌜ r ≤ 16 ⌝ }
+{
+    let n = rules::wide(sign);
+    if n < 48 {
+        return 16;
+    }
+    if n < 58 {
+        return n - 48;
+    }
+    if n < 97 {
+        return 16;
+    }
+    if n < 103 {
+        return n - 87;
+    }
+    16
+}
+
+// The number that begins at `at`, up to a sign that is no digit. Of too many digits the last count.
+fn number_at(text: &[u8], at: usize) -> Seen
+    requires { ⌜ at ≤ length (now text) ⌝ }
+    ensures { λ r. ⌜ (at ≤ r .next) × (r .next ≤ length (now (text .entry))) ⌝ }
+{
+    let mut value: u64 = 0;
+    let mut next = at;
+    while next < text.len() {
+        let d = digit(text[next]);
+        next += 1;
+        if 15 < d {
+            return Seen { value, next };
+        }
+        value = value % 0x1000000000000000 * 16 + d;
+    }
+    Seen { value, next }
+}
+
+fn step_at(text: &[u8], at: usize) -> Step
+    requires { ⌜ at < length (now text) ⌝ }
+    ensures { λ r. ⌜ (at < r .next) × (r .next ≤ length (now (text .entry))) ⌝ }
+{
+    let kind = text[at];
+    let a = number_at(text, at + 1);
+    let b = number_at(text, a.next);
+    let c = number_at(text, b.next);
+    let d = number_at(text, c.next);
+    Step {
+        kind,
+        a: a.value,
+        b: b.value,
+        c: c.value,
+        d: d.value,
+        next: d.next,
+    }
+}
+
+// Where the line that goes on at `at` ends.
+fn end_of(text: &[u8], at: usize) -> usize
+    requires { ⌜ at ≤ length (now text) ⌝ }
+    ensures { λ r. ⌜ (at ≤ r) × (r ≤ length (now (text .entry))) ⌝ }
+{
+    let mut end = at;
+    while end < text.len() {
+        if text[end] == b'\n' {
+            return end;
+        }
+        end += 1;
+    }
+    end
+}
+
+// Writes the rest of the line. It answers where the next line begins.
+fn say_name(text: &[u8], at: usize) -> usize
+    requires { ⌜ at ≤ length (now text) ⌝ }
+    ensures { λ r. ⌜ (at ≤ r) × (r ≤ length (now (text .entry))) ⌝ }
+{
+    let end = end_of(text, at);
+    say(&text[at..end]);
+    if end < text.len() {
+        return end + 1;
+    }
+    end
+}
+
+fn window(base: u64, pages: u64) -> Answer {
     let w = Window { base, pages };
     if w.acceptable() {
-        answer(1);
-        return;
+        return Answer::Number(1);
     }
-    answer(0);
+    Answer::Number(0)
 }
 
-fn map(w: Window, owners: &Owners, lists: &mut Lists, world: u64, m: Mapping) {
+fn map(w: Window, owners: &Owners, lists: &mut Lists, world: u64, m: Mapping) -> Answer {
     match mapping::judge_map(lists, owners, w, world, m) {
         mapping::Verdict::Granted => {
             mapping::hold(lists, world, m);
-            answer(0);
+            Answer::Number(0)
         }
-        mapping::Verdict::Nothing => answer(0),
-        mapping::Verdict::No(r) => refuse(r),
+        mapping::Verdict::Nothing => Answer::Number(0),
+        mapping::Verdict::No(r) => Answer::Refused(r),
     }
 }
 
-fn unmap(lists: &mut Lists, world: u64, virt: u64, size: u64) {
+fn unmap(lists: &mut Lists, world: u64, virt: u64, size: u64) -> Answer {
     if mapping::has(lists, world, virt, size) {
         mapping::release(lists, world, virt, size);
-        answer(0);
-        return;
+        return Answer::Number(0);
     }
-    refuse(Reason::NoMapping);
+    Answer::Refused(Reason::NoMapping)
 }
 
-// Several pages go from one world to another.
-fn shift(
+fn transfer(
     w: Window,
     owners: &mut Owners,
     lists: &Lists,
@@ -83,13 +180,13 @@ fn shift(
     to: u64,
     start: u64,
     count: u64,
-) {
+) -> Answer {
     match transfers::judge_several(w, owners, lists, from, start, count) {
         transfers::Verdict::Granted => {
             transfers::carry(w, owners, start, count, to);
-            answer(0);
+            Answer::Number(0)
         }
-        transfers::Verdict::No(r) => refuse(r),
+        transfers::Verdict::No(r) => Answer::Refused(r),
     }
 }
 
@@ -103,263 +200,63 @@ fn writable(phys: u64, virt: u64, size: u64) -> Mapping {
     }
 }
 
-// Where a page of the virtual addresses starts, and a page of a small window.
-fn virt(page: u16) -> u64 {
-    page as u64 * PAGE
+fn act(w: Window, owners: &mut Owners, lists: &mut Lists, s: Step) -> Answer {
+    let kind = s.kind;
+    match kind {
+        b'm' => map(w, owners, lists, s.a, writable(s.b, s.c, s.d)),
+        b'u' => unmap(lists, s.a, s.b, s.c),
+        b't' => transfer(w, owners, lists, s.a, s.b, s.c, s.d),
+        b'p' => Answer::Number(pages::owner_of(owners, s.a)),
+        _ => window(s.a, s.b),
+    }
 }
 
-fn low(page: u16) -> u64 {
-    LOW + page as u64 * PAGE
+// The step of a line. It answers where the next line begins.
+fn play(text: &[u8], at: usize, w: Window, owners: &mut Owners, lists: &mut Lists) -> usize
+    requires { ⌜ at < length (now text) ⌝ }
+    ensures { λ r. ⌜ (at < r) × (r ≤ length (now (text .entry))) ⌝ }
+{
+    let s = step_at(text, at);
+    if s.kind == b'g' {
+        pages::give(owners, s.a, s.b, s.c);
+        return s.next;
+    }
+    let next = say_name(text, s.next);
+    say_answer(act(w, owners, lists, s));
+    next
 }
 
-// Maps one page, or two.
-fn one(phys: u64, virt: u64) -> Mapping {
-    writable(phys, virt, PAGE)
-}
-
-fn two(phys: u64, virt: u64) -> Mapping {
-    writable(phys, virt, 2 * PAGE)
-}
-
-// Which windows there may be.
-fn windows() {
-    say(b"window of one page");
-    window(LOW, 1);
-    say(b"window of no page");
-    window(LOW, 0);
-    say(b"window of 4096 pages that ends at 2^48");
-    window(HIGH, 4096);
-    say(b"window that ends a page past 2^48");
-    window(HIGH + PAGE, 4096);
-    say(b"window of 4097 pages");
-    window(LOW, 4097);
-    say(b"window from an odd address");
-    window(LOW + 1, 1);
-    say(b"window past 2^64");
-    window(LAST_OF_ALL, 2);
-}
-
-// Mappings of the highest window, at its first and last page.
-fn high_maps(w: Window, owners: &mut Owners, lists: &mut Lists) {
-    say(b"map of Root's page");
-    map(w, owners, lists, NORMAL, one(HIGH, 0));
-    pages::give(owners, 0, 4096, NORMAL);
-    say(b"map of the first page");
-    map(w, owners, lists, NORMAL, one(HIGH, 0));
-    say(b"map of the last page, to 2^32");
-    map(w, owners, lists, NORMAL, one(HIGH_LAST, LAST_VIRTUAL));
-    say(b"map a page past 2^32");
-    map(w, owners, lists, NORMAL, two(HIGH + PAGE, LAST_VIRTUAL));
-    say(b"map from 2^32");
-    map(
-        w,
-        owners,
-        lists,
-        NORMAL,
-        one(HIGH + PAGE, LAST_VIRTUAL + PAGE),
-    );
-    say(b"map a page past the window");
-    map(w, owners, lists, NORMAL, two(HIGH_LAST, PAGE));
-}
-
-// The last page of the highest window moves once it is unmapped.
-fn high_moves(w: Window, owners: &mut Owners, lists: &mut Lists) {
-    say(b"move of all, two mapped");
-    shift(w, owners, lists, NORMAL, REALM, HIGH, 4096);
-    say(b"move of the last page, mapped");
-    shift(w, owners, lists, NORMAL, REALM, HIGH_LAST, 1);
-    say(b"unmap of the last page");
-    unmap(lists, NORMAL, LAST_VIRTUAL, PAGE);
-    say(b"move of the last page, unmapped");
-    shift(w, owners, lists, NORMAL, REALM, HIGH_LAST, 1);
-    say(b"owner of the last page");
-    answer(pages::owner_of(owners, 4095));
-    say(b"owner of the page before");
-    answer(pages::owner_of(owners, 4094));
-    say(b"move of all, the last another's");
-    shift(w, owners, lists, NORMAL, REALM, HIGH, 4096);
-    say(b"move of all and one more");
-    shift(w, owners, lists, NORMAL, REALM, HIGH, 4097);
-    say(b"map of the last page, another's");
-    map(w, owners, lists, NORMAL, one(HIGH_LAST, PAGE));
-    say(b"map of it by its owner");
-    map(w, owners, lists, REALM, one(HIGH_LAST, PAGE));
-}
-
-// Moves about a window of one page.
-fn single_moves(w: Window, owners: &mut Owners, lists: &Lists) {
-    pages::give(owners, 0, 1, NORMAL);
-    say(b"move of no page");
-    shift(w, owners, lists, NORMAL, SECURE, LOW, 0);
-    say(b"move of no page from an odd address");
-    shift(w, owners, lists, NORMAL, SECURE, LOW + 1, 0);
-    say(b"move from the page's last byte");
-    shift(w, owners, lists, NORMAL, SECURE, LOW + 4095, 1);
-    say(b"move from the window's end");
-    shift(w, owners, lists, NORMAL, SECURE, LOW + PAGE, 1);
-    say(b"move from a page before");
-    shift(w, owners, lists, NORMAL, SECURE, LOW - PAGE, 1);
-    say(b"move of two pages of one");
-    shift(w, owners, lists, NORMAL, SECURE, LOW, 2);
-    say(b"move of the only page");
-    shift(w, owners, lists, NORMAL, SECURE, LOW, 1);
-    say(b"move of it again");
-    shift(w, owners, lists, NORMAL, SECURE, LOW, 1);
-}
-
-// The page of that window is mapped, unmapped, and moves back.
-fn single_maps(w: Window, owners: &mut Owners, lists: &mut Lists) {
-    say(b"map of it where it went");
-    map(w, owners, lists, SECURE, one(LOW, 0));
-    say(b"move back, mapped");
-    shift(w, owners, lists, SECURE, NORMAL, LOW, 1);
-    say(b"unmap of half of it");
-    unmap(lists, SECURE, 0, 2048);
-    say(b"unmap by another world");
-    unmap(lists, NORMAL, 0, PAGE);
-    say(b"unmap");
-    unmap(lists, SECURE, 0, PAGE);
-    say(b"unmap again");
-    unmap(lists, SECURE, 0, PAGE);
-    say(b"move back, unmapped");
-    shift(w, owners, lists, SECURE, NORMAL, LOW, 1);
-    say(b"owner of the only page");
-    answer(pages::owner_of(owners, 0));
-}
-
-// One of the first sixteen pages, mapped at the virtual page of the same number.
-fn place(w: Window, owners: &Owners, lists: &mut Lists, page: u16) {
-    say(b"map of one of sixteen");
-    map(w, owners, lists, NORMAL, one(low(page), virt(page)));
-}
-
-fn sixteen(w: Window, owners: &Owners, lists: &mut Lists) {
-    place(w, owners, lists, 0);
-    place(w, owners, lists, 1);
-    place(w, owners, lists, 2);
-    place(w, owners, lists, 3);
-    place(w, owners, lists, 4);
-    place(w, owners, lists, 5);
-    place(w, owners, lists, 6);
-    place(w, owners, lists, 7);
-    place(w, owners, lists, 8);
-    place(w, owners, lists, 9);
-    place(w, owners, lists, 10);
-    place(w, owners, lists, 11);
-    place(w, owners, lists, 12);
-    place(w, owners, lists, 13);
-    place(w, owners, lists, 14);
-    place(w, owners, lists, 15);
-}
-
-// One more than sixteen.
-fn crowd(w: Window, owners: &Owners, lists: &mut Lists) {
-    say(b"seventeenth");
-    map(w, owners, lists, NORMAL, one(low(16), virt(16)));
-    say(b"seventeenth that also overlaps");
-    map(w, owners, lists, NORMAL, one(LOW, 0));
-    say(b"seventeenth past 2^32");
-    map(w, owners, lists, NORMAL, two(LOW, LAST_VIRTUAL));
-    say(b"seventeenth of size 0 at odd addresses");
-    map(w, owners, lists, NORMAL, writable(LOW + 1, 1, 0));
-    say(b"unmap of the ninth");
-    unmap(lists, NORMAL, virt(8), PAGE);
-}
-
-// The ninth place again, between mappings on either side.
-fn refill(w: Window, owners: &Owners, lists: &mut Lists) {
-    say(b"sixteenth that overlaps in virtual addresses");
-    map(w, owners, lists, NORMAL, one(low(16), virt(7)));
-    say(b"sixteenth that overlaps in physical addresses");
-    map(w, owners, lists, NORMAL, one(low(9), virt(16)));
-    say(b"sixteenth of which the second page overlaps");
-    map(w, owners, lists, NORMAL, two(low(16), virt(8)));
-    say(b"sixteenth between its neighbours");
-    map(w, owners, lists, NORMAL, one(low(8), virt(8)));
-    say(b"seventeenth again");
-    map(w, owners, lists, NORMAL, one(low(16), virt(16)));
-}
-
-// Sums that 64 bits would wrap.
-fn wraps(w: Window, owners: &mut Owners, lists: &mut Lists) {
-    say(b"map whose virtual end wraps");
-    map(w, owners, lists, SECURE, two(LOW, LAST_OF_ALL));
-    say(b"map whose physical end wraps");
-    map(w, owners, lists, SECURE, two(LAST_OF_ALL, 0));
-    say(b"map whose size wraps both ends");
-    map(w, owners, lists, SECURE, writable(LOW, PAGE, LAST_OF_ALL));
-    say(b"move from the last page of all");
-    shift(w, owners, lists, NORMAL, SECURE, LAST_OF_ALL, 2);
-    say(b"move of 2^52 pages");
-    shift(w, owners, lists, NORMAL, SECURE, LOW, 0x10000000000000);
-    say(b"move of 2^64 - 1 pages");
-    shift(w, owners, lists, NORMAL, SECURE, LOW, 0xFFFFFFFFFFFFFFFF);
-}
-
-// Runs of which one page is not as the others.
-fn mixed(w: Window, owners: &mut Owners, lists: &mut Lists) {
-    pages::give(owners, 21, 1, SECURE);
-    say(b"move of two, the second another's");
-    shift(w, owners, lists, NORMAL, REALM, low(20), 2);
-    say(b"owner of the first of them");
-    answer(pages::owner_of(owners, 20));
-    say(b"map of two, the second another's");
-    map(w, owners, lists, SECURE, two(low(21), 0));
-    say(b"move of two, the first mapped");
-    shift(w, owners, lists, NORMAL, REALM, low(15), 2);
-    say(b"move of mapped pages and another's");
-    shift(w, owners, lists, NORMAL, REALM, low(15), 7);
-    say(b"move of the page after the mapped ones");
-    shift(w, owners, lists, NORMAL, REALM, low(16), 1);
-    say(b"owner of the last mapped page");
-    answer(pages::owner_of(owners, 15));
-    say(b"owner of the page after it");
-    answer(pages::owner_of(owners, 16));
-}
-
-// The highest window.
-fn high() {
+// The steps of one window. It answers where the next window's line begins.
+fn scene(text: &[u8], at: usize) -> usize
+    requires { ⌜ at < length (now text) ⌝ }
+    ensures { λ r. ⌜ (at < r) × (r ≤ length (now (text .entry))) ⌝ }
+{
+    let s = step_at(text, at);
     let w = Window {
-        base: HIGH,
-        pages: 4096,
+        base: s.a,
+        pages: s.b,
     };
     let mut owners = pages::fresh_owners();
     let mut lists = mapping::fresh();
-    high_maps(w, &mut owners, &mut lists);
-    high_moves(w, &mut owners, &mut lists);
+    let mut next = s.next;
+    while next < text.len() {
+        if text[next] == b'o' {
+            return next;
+        }
+        next = play(text, next, w, &mut owners, &mut lists);
+    }
+    next
 }
 
-// The smallest window.
-fn single() {
-    let w = Window {
-        base: LOW,
-        pages: 1,
-    };
-    let mut owners = pages::fresh_owners();
-    let mut lists = mapping::fresh();
-    single_moves(w, &mut owners, &lists);
-    single_maps(w, &mut owners, &mut lists);
-}
-
-// A window with more pages than a world may hold mappings.
-fn crowded() {
-    let w = Window {
-        base: LOW,
-        pages: 32,
-    };
-    let mut owners = pages::fresh_owners();
-    let mut lists = mapping::fresh();
-    pages::give(&mut owners, 0, 32, NORMAL);
-    sixteen(w, &owners, &mut lists);
-    crowd(w, &owners, &mut lists);
-    refill(w, &owners, &mut lists);
-    wraps(w, &mut owners, &mut lists);
-    mixed(w, &mut owners, &mut lists);
+fn run(text: &[u8]) {
+    let mut at = 0;
+    while at < text.len() {
+        at = scene(text, at);
+    }
 }
 
 fn main() {
-    windows();
-    high();
-    single();
-    crowded();
+    let mut buf = io::large_buffer();
+    let n = io::read_full(STDIN_FILENO, &mut buf);
+    run(&buf[..n]);
 }

@@ -2,14 +2,15 @@
 use mathlib.Core.Path.{_≡_, refl, sym, _∙_}
 use mathlib.Core.List.{List, [], _∷_}
 use mathlib.Core.Logic.{⊎-elim}
-use Prim.Native.Nat.{ℕ, zero, suc, _+_, _-_, _*_, _/_, _%_, _≤_, _<_}
+use Prim.Native.Nat.{ℕ, zero, suc, _+_, _-_, _*_, _≤_, _<_}
 use native.Mathlib.Omega.{arith}
 use native.Mathlib.Numerals.{add-one}
 use native.Mathlib.Nat.{eq-or-lt-of-le}
-use lib.Dec.{ltb, eqb}
-use lib.ListN.{length, getD, set, take, drop, replicate, length-set, length-take, length-replicate, getD-replicate, List·getD-eq-default, drop-of-length-le}
-use lib.Seq.{sets, length-sets, getD-set-same, getD-set-other, getD-take, getD-drop, drop-cons, ext-getD, take-take}
-use borrow.Author.Tests.{lt-ltb, le-ltb, ltb-true, ltb-false, eqb-true, eqb-false}
+use lib.Dec.{ltb}
+use lib.ListN.{length, getD, set, take, drop, replicate, length-set, length-take, length-replicate, List·getD-eq-default, drop-of-length-le}
+use lib.Seq.{sets, length-sets, getD-set-same, getD-set-other, getD-take, getD-drop, drop-cons}
+use borrow.Author.Tests.{lt-ltb, le-ltb, ltb-true, ltb-false}
+use Rattle.rules.specs.Sizes.{worlds, mostCores}
 use Rattle.rules.specs.Choice.{pick, picked, passed, either}
 use Rattle.registers.specs.declared.Start.{Start}
 use Rattle.registers.specs.declared.Start.the-variants.{At, Nowhere}
@@ -17,22 +18,29 @@ use Rattle.registers.specs.declared.Shown.{Shown}
 
 -- ---- the table: eight cores, four worlds of each, nine numbers of each
 
+-- how many numbers are saved for each core and world, and how many in all
+abbrev pub each : ℕ
+each = 9
+
+abbrev pub numbers : ℕ
+numbers = mostCores * worlds * each
+
 pub Whole : List ℕ → Type 0
-Whole t = length t ≡ 288
+Whole t = length t ≡ numbers
 
 pub zeros : List ℕ
-zeros = replicate 288 0
+zeros = replicate numbers 0
 
 abbrev place : ℕ → ℕ → ℕ
-place c w = (c * 4 + w) * 9
+place c w = (c * worlds + w) * each
 
 -- where the numbers of a core and world begin
 pub startOf : ℕ → ℕ → Start
-startOf c w = pick (ltb c 8) (pick (ltb w 4) (At (place c w)) Nowhere) Nowhere
+startOf c w = pick (ltb c mostCores) (pick (ltb w worlds) (At (place c w)) Nowhere) Nowhere
 
 -- the part of the table that holds them
 partAt : List ℕ → Start → List ℕ
-partAt t (At a) = take 9 (drop a t)
+partAt t (At a) = take each (drop a t)
 partAt t Nowhere = []
 
 -- what a reader finds in such a part: number i, and 0 past its end
@@ -43,16 +51,16 @@ unfoldable pub shownIn : List ℕ → Shown
 shownIn part = record { x0 = numberIn part 0; x1 = numberIn part 1; x2 = numberIn part 2; x3 = numberIn part 3 }
 
 -- the numbers xs in place of as many from there on, nine at most
-keptAt : List ℕ → Start → List ℕ → List ℕ
-keptAt t (At a) xs = sets t a (take 9 xs)
-keptAt t Nowhere xs = t
+savingAt : List ℕ → Start → List ℕ → List ℕ
+savingAt t (At a) xs = sets t a (take each xs)
+savingAt t Nowhere xs = t
 
 pub countOf : ℕ → ℕ
-countOf n = pick (ltb n 9) n 9
+countOf n = pick (ltb n each) n each
 
 -- what the table is to be, once number i of xs and those after it are written
 pub left : List ℕ → ℕ → List ℕ → ℕ → List ℕ
-left t a xs i = sets t (a + i) (drop i (take 9 xs))
+left t a xs i = sets t (a + i) (drop i (take each xs))
 
 -- ---- what the promises say
 
@@ -65,40 +73,40 @@ unfoldable pub shownOf : List ℕ → ℕ → ℕ → Shown
 shownOf t c w = record { x0 = saved t c w 0; x1 = saved t c w 1; x2 = saved t c w 2; x3 = saved t c w 3 }
 
 -- the table after the numbers xs are written to a core and world, from x0 on
-pub kept : List ℕ → ℕ → ℕ → List ℕ → List ℕ
-kept t c w xs = keptAt t (startOf c w) xs
+pub saving : List ℕ → ℕ → ℕ → List ℕ → List ℕ
+saving t c w xs = savingAt t (startOf c w) xs
 
 -- ---- how the code meets these definitions
 
-pub zeros-made : replicate 288 0 ≡ zeros
+pub zeros-made : replicate numbers 0 ≡ zeros
 unfolding zeros
 zeros-made = refl
 
 module _ (c w : ℕ) where
-  pub start-here : c < 8 → w < 4 → At (place c w) ≡ startOf c w
+  pub start-here : c < mostCores → w < worlds → At (place c w) ≡ startOf c w
   unfolding startOf
-  start-here h k = picked _ _ _ _ (lt-ltb c 8 h) (picked _ _ _ _ (lt-ltb w 4 k) refl)
+  start-here h k = picked _ _ _ _ (lt-ltb c mostCores h) (picked _ _ _ _ (lt-ltb w worlds k) refl)
 
-  pub start-no-core : 8 ≤ c → Nowhere ≡ startOf c w
+  pub start-no-core : mostCores ≤ c → Nowhere ≡ startOf c w
   unfolding startOf
-  start-no-core h = passed _ _ _ _ (le-ltb c 8 h) refl
+  start-no-core h = passed _ _ _ _ (le-ltb c mostCores h) refl
 
-  pub start-no-world : c < 8 → 4 ≤ w → Nowhere ≡ startOf c w
+  pub start-no-world : c < mostCores → worlds ≤ w → Nowhere ≡ startOf c w
   unfolding startOf
-  start-no-world h k = picked _ _ _ _ (lt-ltb c 8 h) (passed _ _ _ _ (le-ltb w 4 k) refl)
+  start-no-world h k = picked _ _ _ _ (lt-ltb c mostCores h) (passed _ _ _ _ (le-ltb w worlds k) refl)
 
 pub ruleset starts = (start-here, start-no-core, start-no-world)
 
 -- a core and world have a place, or there is none
-placed : {P : Type 0} (c w : ℕ) → (c < 8 → w < 4 → startOf c w ≡ At (place c w) → P) → (startOf c w ≡ Nowhere → P) → P
+placed : {P : Type 0} (c w : ℕ) → (c < mostCores → w < worlds → startOf c w ≡ At (place c w) → P) → (startOf c w ≡ Nowhere → P) → P
 placed c w f g =
-    either (ltb c 8)
-    (λ e. let h = ltb-true c 8 e in
-    either (ltb w 4) (λ d. let k = ltb-true w 4 d in f h k (sym (start-here c w h k))) (λ d. g (sym (start-no-world c w h (ltb-false w 4 d)))))
-    (λ e. g (sym (start-no-core c w (ltb-false c 8 e))))
+    either (ltb c mostCores)
+    (λ e. let h = ltb-true c mostCores e in
+    either (ltb w worlds) (λ d. let k = ltb-true w worlds d in f h k (sym (start-here c w h k))) (λ d. g (sym (start-no-world c w h (ltb-false w worlds d)))))
+    (λ e. g (sym (start-no-core c w (ltb-false c mostCores e))))
 
 -- nine numbers stand from there on
-pub start-fits : (c w a : ℕ) (s : Start) → s ≡ startOf c w → s ≡ At a → a + 9 ≤ 288
+pub start-fits : (c w a : ℕ) (s : Start) → s ≡ startOf c w → s ≡ At a → a + each ≤ numbers
 start-fits c w a s f g =
     placed c w
     (λ h k e. let z : a ≡ place c w = cc in omega arith)
@@ -117,24 +125,20 @@ pub ruleset numbers-in = (number-there, number-past)
 
 module _ (t : List ℕ) (c w : ℕ) (s : Start) (f : s ≡ startOf c w) where
   module _ (a : ℕ) (g : s ≡ At a) where
-    part-there : take (a + 9 - a) (drop a t) ≡ partAt t (startOf c w)
+    part-there : take (a + each - a) (drop a t) ≡ partAt t (startOf c w)
     unfolding partAt
-    part-there = let n : a + 9 - a ≡ 9 = omega arith in rw (← f, g, n)
+    part-there = let n : a + each - a ≡ each = omega arith in rw (← f, g, n)
 
-    pub saved-there : (i r : ℕ) → r ≡ numberIn (take (a + 9 - a) (drop a t)) i → r ≡ saved t c w i
-    unfolding saved
-    saved-there i r h = rw (← part-there) h
-
-    pub shown-there : (r : Shown) → r ≡ shownIn (take (a + 9 - a) (drop a t)) → r ≡ shownOf t c w
+    pub shown-there : (r : Shown) → r ≡ shownIn (take (a + each - a) (drop a t)) → r ≡ shownOf t c w
     unfolding shownIn shownOf saved
     shown-there r h = rw (← part-there) h
 
-    left-all : (xs : List ℕ) → kept t c w xs ≡ left t a xs 0
-    unfolding kept keptAt left
+    left-all : (xs : List ℕ) → saving t c w xs ≡ left t a xs 0
+    unfolding saving savingAt left
     left-all xs = let z : a + 0 ≡ a = omega arith in rw (← f, g, z)
 
   module _ (g : s ≡ Nowhere) where
-    pub saved-nowhere : (i : ℕ) → 0 ≡ saved t c w i
+    saved-nowhere : (i : ℕ) → 0 ≡ saved t c w i
     unfolding saved partAt numberIn
     saved-nowhere i = rw (← f, g)
 
@@ -142,62 +146,62 @@ module _ (t : List ℕ) (c w : ℕ) (s : Start) (f : s ≡ startOf c w) where
     unfolding shownOf
     shown-nowhere = λ i. record { x0 = saved-nowhere 0 i; x1 = saved-nowhere 1 i; x2 = saved-nowhere 2 i; x3 = saved-nowhere 3 i }
 
-    pub kept-nowhere : (xs : List ℕ) → t ≡ kept t c w xs
-    unfolding kept keptAt
-    kept-nowhere xs = rw (← f, g)
+    pub saving-nowhere : (xs : List ℕ) → t ≡ saving t c w xs
+    unfolding saving savingAt
+    saving-nowhere xs = rw (← f, g)
 
-pub ruleset reading = (saved-there, saved-nowhere, shown-there, shown-nowhere)
+pub ruleset reading = (shown-there, shown-nowhere)
 
 module _ (n : ℕ) where
-  pub count-few : n < 9 → n ≡ countOf n
+  pub count-few : n < each → n ≡ countOf n
   unfolding countOf
-  count-few h = picked _ _ _ _ (lt-ltb n 9 h) refl
+  count-few h = picked _ _ _ _ (lt-ltb n each h) refl
 
-  pub count-nine : 9 ≤ n → 9 ≡ countOf n
+  pub count-nine : each ≤ n → each ≡ countOf n
   unfolding countOf
-  count-nine h = passed _ _ _ _ (le-ltb n 9 h) refl
+  count-nine h = passed _ _ _ _ (le-ltb n each h) refl
 
 pub ruleset counts = (count-few, count-nine)
 
-count-take : (xs : List ℕ) → countOf (length xs) ≡ length (take 9 xs)
+count-take : (xs : List ℕ) → countOf (length xs) ≡ length (take each xs)
 count-take xs =
-    either (ltb (length xs) 9)
-    (λ e. let h = ltb-true (length xs) 9 e in sym (count-few (length xs) h) ∙ sym (rw length-take (omega arith)))
-    (λ e. let h = ltb-false (length xs) 9 e in sym (count-nine (length xs) h) ∙ sym (rw length-take (omega arith)))
+    either (ltb (length xs) each)
+    (λ e. let h = ltb-true (length xs) each e in sym (count-few (length xs) h) ∙ sym (rw length-take (omega arith)))
+    (λ e. let h = ltb-false (length xs) each e in sym (count-nine (length xs) h) ∙ sym (rw length-take (omega arith)))
 
 -- the loop that writes n numbers of xs from a on has written i of them
-pub record Keeping (t₀ : List ℕ) (c w : ℕ) (xs : List ℕ) (a n : ℕ) (t : List ℕ) (i : ℕ) : Type 0 where
-  pub room : a + n ≤ 288
+pub record Writing (t₀ : List ℕ) (c w : ℕ) (xs : List ℕ) (a n : ℕ) (t : List ℕ) (i : ℕ) : Type 0 where
+  pub room : a + n ≤ numbers
   pub enough : n ≤ length xs
-  pub whole : n ≡ length (take 9 xs)
-  pub rest : kept t₀ c w xs ≡ left t a xs i
+  pub whole : n ≡ length (take each xs)
+  pub rest : saving t₀ c w xs ≡ left t a xs i
 
 module _ (t₀ : List ℕ) (c w : ℕ) (xs : List ℕ) (a n : ℕ) where
-  pub keeping-starts : (s : Start) → s ≡ startOf c w → s ≡ At a → n ≡ countOf (length xs) → Keeping t₀ c w xs a n t₀ 0
-  keeping-starts s f g e =
-      let m : n ≡ length (take 9 xs) = e ∙ count-take xs in
-      let l = length-take 9 xs in
+  pub writing-starts : (s : Start) → s ≡ startOf c w → s ≡ At a → n ≡ countOf (length xs) → Writing t₀ c w xs a n t₀ 0
+  writing-starts s f g e =
+      let m : n ≡ length (take each xs) = e ∙ count-take xs in
+      let l = length-take each xs in
       let h = start-fits c w a s f g in
       record { room = omega arith; enough = omega arith; whole = m; rest = left-all t₀ c w s f a g xs }
 
-  module _ (t : List ℕ) (i : ℕ) (k : Keeping t₀ c w xs a n t i) where
-    pub keeping-goes : (t′ : List ℕ) → t′ ≡ set t (a + i) (getD xs i 0) → i < n → Keeping t₀ c w xs a n t′ (i + 1)
+  module _ (t : List ℕ) (i : ℕ) (k : Writing t₀ c w xs a n t i) where
+    pub writing-goes : (t′ : List ℕ) → t′ ≡ set t (a + i) (getD xs i 0) → i < n → Writing t₀ c w xs a n t′ (i + 1)
     unfolding left
-    keeping-goes t′ e h =
-        let l = length-take 9 xs in
+    writing-goes t′ e h =
+        let l = length-take each xs in
         let z : a + (i + 1) ≡ suc (a + i) = omega arith in
         record {
           room = k .room;
           enough = k .enough;
           whole = k .whole;
-          rest = k .rest ∙ rw (e, z, add-one i, drop-cons (take 9 xs) i 0 (omega arith), getD-take 9 xs i 0 (omega arith));
+          rest = k .rest ∙ rw (e, z, add-one i, drop-cons (take each xs) i 0 (omega arith), getD-take each xs i 0 (omega arith));
         }
 
-    pub keeping-ends : n ≤ i → t ≡ kept t₀ c w xs
+    pub writing-ends : n ≤ i → t ≡ saving t₀ c w xs
     unfolding left
-    keeping-ends h = sym (k .rest ∙ rw (drop-of-length-le (take 9 xs) {i = i} (omega arith)))
+    writing-ends h = sym (k .rest ∙ rw (drop-of-length-le (take each xs) {i = i} (omega arith)))
 
-pub ruleset keeping = (keeping-starts, keeping-goes, keeping-ends, kept-nowhere)
+pub ruleset writing = (writing-starts, writing-goes, writing-ends, saving-nowhere)
 
 -- ---- a run of numbers written into a table: which ones change
 sets-before : (vs t : List ℕ) (a k : ℕ) → k < a → getD (sets t a vs) k 0 ≡ getD t k 0
@@ -224,166 +228,80 @@ module _ (t : List ℕ) (c w : ℕ) where
   saved-lost : startOf c w ≡ Nowhere → (i : ℕ) → saved t c w i ≡ 0
   saved-lost e i = sym (saved-nowhere t c w Nowhere (sym e) refl i)
 
-  kept-lost : startOf c w ≡ Nowhere → (xs : List ℕ) → kept t c w xs ≡ t
-  kept-lost e xs = sym (kept-nowhere t c w Nowhere (sym e) refl xs)
+  saving-lost : startOf c w ≡ Nowhere → (xs : List ℕ) → saving t c w xs ≡ t
+  saving-lost e xs = sym (saving-nowhere t c w Nowhere (sym e) refl xs)
 
-  pub saved-no-core : 8 ≤ c → (i : ℕ) → saved t c w i ≡ 0
-  saved-no-core h = saved-lost (sym (start-no-core c w h))
-
-  pub saved-no-world : 4 ≤ w → (i : ℕ) → saved t c w i ≡ 0
-  saved-no-world h = placed c w (λ k l e. absurd (omega arith)) saved-lost
-
-  pub saved-no-number : (i : ℕ) → 9 ≤ i → saved t c w i ≡ 0
+  pub saved-no-number : (i : ℕ) → each ≤ i → saved t c w i ≡ 0
   unfolding saved partAt numberIn
   saved-no-number i h =
       placed c w
-      (λ k l e. let n = length-take 9 (drop (place c w) t) in rw e (List·getD-eq-default (take 9 (drop (place c w) t)) 0 {n = i} (omega arith)))
+      (λ k l e. let n = length-take each (drop (place c w) t) in rw e (List·getD-eq-default (take each (drop (place c w) t)) 0 {n = i} (omega arith)))
       (λ e. rw e)
 
-  pub kept-no-core : 8 ≤ c → (xs : List ℕ) → kept t c w xs ≡ t
-  kept-no-core h = kept-lost (sym (start-no-core c w h))
-
-  pub kept-no-world : 4 ≤ w → (xs : List ℕ) → kept t c w xs ≡ t
-  kept-no-world h = placed c w (λ k l e. absurd (omega arith)) kept-lost
-
 -- a number is one of the nine of a core and world, or there is none in any table
-numbered : {P : Type 0} (c w i : ℕ) → (c < 8 → w < 4 → i < 9 → P) → (((t : List ℕ) → saved t c w i ≡ 0) → P) → P
+numbered : {P : Type 0} (c w i : ℕ) → (c < mostCores → w < worlds → i < each → P) → (((t : List ℕ) → saved t c w i ≡ 0) → P) → P
 numbered c w i f g =
     placed c w
-    (λ h k e. either (ltb i 9) (λ d. f h k (ltb-true i 9 d)) (λ d. g (λ t. saved-no-number t c w i (ltb-false i 9 d))))
+    (λ h k e. either (ltb i each) (λ d. f h k (ltb-true i each d)) (λ d. g (λ t. saved-no-number t c w i (ltb-false i each d))))
     (λ e. g (λ t. saved-lost t c w e i))
 
-module _ (t : List ℕ) (c w : ℕ) (h : c < 8) (k : w < 4) where
-  saved-is : (i : ℕ) → i < 9 → saved t c w i ≡ getD t (place c w + i) 0
+module _ (t : List ℕ) (c w : ℕ) (h : c < mostCores) (k : w < worlds) where
+  saved-is : (i : ℕ) → i < each → saved t c w i ≡ getD t (place c w + i) 0
   unfolding saved partAt numberIn
-  saved-is i l = rw (← start-here c w h k) (getD-take 9 (drop (place c w) t) i 0 l ∙ getD-drop (place c w) t i 0)
+  saved-is i l = rw (← start-here c w h k) (getD-take each (drop (place c w) t) i 0 l ∙ getD-drop (place c w) t i 0)
 
-  kept-is : (xs : List ℕ) → kept t c w xs ≡ sets t (place c w) (take 9 xs)
-  unfolding kept keptAt
-  kept-is xs = rw (← start-here c w h k)
-
--- at first nothing has been saved: every number is 0
-pub zeros-saved : (c w i : ℕ) → saved zeros c w i ≡ 0
-unfolding zeros
-zeros-saved c w i = numbered c w i (λ h k l. saved-is zeros c w h k i l ∙ getD-replicate 288 (place c w + i) 0 0 (omega arith)) (λ n. n zeros)
+  saving-is : (xs : List ℕ) → saving t c w xs ≡ sets t (place c w) (take each xs)
+  unfolding saving savingAt
+  saving-is xs = rw (← start-here c w h k)
 
 pub zeros-whole : Whole zeros
 unfolding zeros Whole
-zeros-whole = length-replicate {A = ℕ} 288 0
+zeros-whole = length-replicate {A = ℕ} numbers 0
 
 module _ (t : List ℕ) (c w : ℕ) (xs : List ℕ) where
-  pub kept-whole : Whole t → Whole (kept t c w xs)
+  pub saving-whole : Whole t → Whole (saving t c w xs)
   unfolding Whole
-  kept-whole a = placed c w (λ h k e. rw (kept-is t c w h k xs, length-sets) a) (λ e. rw (kept-lost t c w e xs) a)
+  saving-whole a = placed c w (λ h k e. rw (saving-is t c w h k xs, length-sets) a) (λ e. rw (saving-lost t c w e xs) a)
 
   -- the numbers of xs stand from x0 on
-  pub kept-at : (j : ℕ) → Whole t → c < 8 → w < 4 → j < 9 → j < length xs → saved (kept t c w xs) c w j ≡ getD xs j 0
+  pub saving-at : (j : ℕ) → Whole t → c < mostCores → w < worlds → j < each → j < length xs → saved (saving t c w xs) c w j ≡ getD xs j 0
   unfolding Whole
-  kept-at j a h k l m =
-      let n = length-take 9 xs in
-      saved-is (kept t c w xs) c w h k j l
-      ∙ rw (kept-is t c w h k xs) (sets-in (take 9 xs) t (place c w) j (omega arith) (omega arith))
-      ∙ getD-take 9 xs j 0 l
+  saving-at j a h k l m =
+      let n = length-take each xs in
+      saved-is (saving t c w xs) c w h k j l
+      ∙ rw (saving-is t c w h k xs) (sets-in (take each xs) t (place c w) j (omega arith) (omega arith))
+      ∙ getD-take each xs j 0 l
 
   -- those past them stay
-  pub kept-past : (j : ℕ) → length xs ≤ j → saved (kept t c w xs) c w j ≡ saved t c w j
-  kept-past j m =
-      let n = length-take 9 xs in
+  pub saving-past : (j : ℕ) → length xs ≤ j → saved (saving t c w xs) c w j ≡ saved t c w j
+  saving-past j m =
+      let n = length-take each xs in
       numbered c w j
-      (λ h k l. saved-is (kept t c w xs) c w h k j l
-      ∙ rw (kept-is t c w h k xs) (sets-past (take 9 xs) t (place c w) (place c w + j) (omega arith))
+      (λ h k l. saved-is (saving t c w xs) c w h k j l
+      ∙ rw (saving-is t c w h k xs) (sets-past (take each xs) t (place c w) (place c w + j) (omega arith))
       ∙ sym (saved-is t c w h k j l))
-      (λ z. z (kept t c w xs) ∙ sym (z t))
+      (λ z. z (saving t c w xs) ∙ sym (z t))
 
   -- nine numbers at one place are apart from nine at another
-  away : (d u j : ℕ) → (c ≡ d → w ≡ u → ⊥) → w < 4 → u < 4 → j < 9 → getD (sets t (place c w) (take 9 xs)) (place d u + j) 0 ≡ getD t (place d u + j) 0
+  away : (d u j : ℕ) → (c ≡ d → w ≡ u → ⊥) → w < worlds → u < worlds → j < each → getD (sets t (place c w) (take each xs)) (place d u + j) 0 ≡ getD t (place d u + j) 0
   away d u j o k q l =
-      let n = length-take 9 xs in
-      either (ltb (d * 4 + u) (c * 4 + w))
-      (λ b. let y = ltb-true (d * 4 + u) (c * 4 + w) b in sets-before (take 9 xs) t (place c w) (place d u + j) (omega arith))
+      let n = length-take each xs in
+      either (ltb (d * worlds + u) (c * worlds + w))
+      (λ b. let y = ltb-true (d * worlds + u) (c * worlds + w) b in sets-before (take each xs) t (place c w) (place d u + j) (omega arith))
       (λ b. ⊎-elim
-      (λ (y : c * 4 + w ≡ d * 4 + u). absurd (o (omega arith) (omega arith)))
-      (λ (y : c * 4 + w < d * 4 + u). sets-past (take 9 xs) t (place c w) (place d u + j) (omega arith))
-      (eq-or-lt-of-le (ltb-false (d * 4 + u) (c * 4 + w) b)))
+      (λ (y : c * worlds + w ≡ d * worlds + u). absurd (o (omega arith) (omega arith)))
+      (λ (y : c * worlds + w < d * worlds + u). sets-past (take each xs) t (place c w) (place d u + j) (omega arith))
+      (eq-or-lt-of-le (ltb-false (d * worlds + u) (c * worlds + w) b)))
 
   -- and so do those of another core or world
-  pub kept-other : (d u j : ℕ) → (c ≡ d → w ≡ u → ⊥) → saved (kept t c w xs) d u j ≡ saved t d u j
-  kept-other d u j o =
+  pub saving-other : (d u j : ℕ) → (c ≡ d → w ≡ u → ⊥) → saved (saving t c w xs) d u j ≡ saved t d u j
+  saving-other d u j o =
       placed c w
       (λ h k e. numbered d u j
-      (λ p q l. saved-is (kept t c w xs) d u p q j l ∙ rw (kept-is t c w h k xs) (away d u j o k q l) ∙ sym (saved-is t d u p q j l))
-      (λ z. z (kept t c w xs) ∙ sym (z t)))
-      (λ e. rw (kept-lost t c w e xs))
+      (λ p q l. saved-is (saving t c w xs) d u p q j l ∙ rw (saving-is t c w h k xs) (away d u j o k q l) ∙ sym (saved-is t d u p q j l))
+      (λ z. z (saving t c w xs) ∙ sym (z t)))
+      (λ e. rw (saving-lost t c w e xs))
 
 -- writing nothing changes nothing
-pub kept-none : (t : List ℕ) (c w : ℕ) → kept t c w [] ≡ t
-kept-none t c w = placed c w (λ h k e. kept-is t c w h k []) (λ e. kept-lost t c w e [])
-
--- what is past the ninth is not written
-pub kept-nine : (t : List ℕ) (c w : ℕ) (xs : List ℕ) → kept t c w (take 9 xs) ≡ kept t c w xs
-kept-nine t c w xs =
-    placed c w
-    (λ h k e. kept-is t c w h k (take 9 xs) ∙ rw (take-take 9 9 xs (omega arith)) (sym (kept-is t c w h k xs)))
-    (λ e. kept-lost t c w e (take 9 xs) ∙ sym (kept-lost t c w e xs))
-
--- a table is its numbers: nothing else is in it
-pub same-numbers : (t q : List ℕ) → Whole t → Whole q → ((c w i : ℕ) → c < 8 → w < 4 → i < 9 → saved t c w i ≡ saved q c w i) → t ≡ q
-unfolding Whole
-same-numbers t q a b f =
-    ext-getD 0 t q (a ∙ sym b)
-    (λ n s.
-    let c = n / 36 in
-    let w = n / 9 % 4 in
-    let i = n % 9 in
-    let z : place c w + i ≡ n = omega arith in
-    let h : c < 8 = omega arith in
-    let k : w < 4 = omega arith in
-    let l : i < 9 = omega arith in
-    rw (← z) (sym (saved-is t c w h k i l) ∙ f c w i h k l ∙ saved-is q c w h k i l))
-
--- ---- a copy of any count
-
--- t′ is t with the numbers xs, however many, in place of as many of one core and world, and nothing else changed
-pub record Copied (t : List ℕ) (c w : ℕ) (xs t′ : List ℕ) : Type 0 where
-  pub whole : Whole t′
-  pub written : (j : ℕ) → j < 9 → j < length xs → saved t′ c w j ≡ getD xs j 0
-  pub past : (j : ℕ) → length xs ≤ j → saved t′ c w j ≡ saved t c w j
-  pub others : (d u j : ℕ) → (c ≡ d → w ≡ u → ⊥) → saved t′ d u j ≡ saved t d u j
-
-pub kept-copies : (t : List ℕ) (c w : ℕ) (xs : List ℕ) → Whole t → c < 8 → w < 4 → Copied t c w xs (kept t c w xs)
-kept-copies t c w xs a h k =
-    record {
-      whole = kept-whole t c w xs a;
-      written = λ j l m. kept-at t c w xs j a h k l m;
-      past = kept-past t c w xs;
-      others = kept-other t c w xs;
-    }
-
--- two tables alike in a number are alike in it after one copy into both
-module _ (t q : List ℕ) (c w : ℕ) (xs : List ℕ) where
-  copied-same : (t′ q′ : List ℕ) → Copied t c w xs t′ → Copied q c w xs q′ → (d u j : ℕ) → saved t d u j ≡ saved q d u j → saved t′ d u j ≡ saved q′ d u j
-  copied-same t′ q′ r s d u j e =
-      either (eqb c d)
-      (λ y. either (eqb w u) (λ z. here (eqb-true c d y) (eqb-true w u z)) (λ z. elsewhere (λ f g. eqb-false w u z g)))
-      (λ y. elsewhere (λ f g. eqb-false c d y f))
-    where
-      elsewhere : (c ≡ d → w ≡ u → ⊥) → saved t′ d u j ≡ saved q′ d u j
-      elsewhere o = r .others d u j o ∙ e ∙ sym (s .others d u j o)
-
-      here : c ≡ d → w ≡ u → saved t′ d u j ≡ saved q′ d u j
-      here y z =
-          rw (← y, ← z) (either (ltb j (length xs))
-          (λ b. let m = ltb-true j (length xs) b in numbered c w j (λ h k l. r .written j l m ∙ sym (s .written j l m)) (λ n. n t′ ∙ sym (n q′)))
-          (λ b. let m = ltb-false j (length xs) b in r .past j m ∙ rw (y, z) e ∙ sym (s .past j m)))
-
-  pub kept-same : (d u j : ℕ) → Whole t → Whole q → saved t d u j ≡ saved q d u j → saved (kept t c w xs) d u j ≡ saved (kept q c w xs) d u j
-  kept-same d u j a b e =
-      placed c w
-      (λ h k f. copied-same (kept t c w xs) (kept q c w xs) (kept-copies t c w xs a h k) (kept-copies q c w xs b h k) d u j e)
-      (λ f. rw (kept-lost t c w f xs, kept-lost q c w f xs) e)
-
--- only one table is such a copy
-pub copied-kept : (t : List ℕ) (c w : ℕ) (xs t′ : List ℕ) → Whole t → c < 8 → w < 4 → Copied t c w xs t′ → t′ ≡ kept t c w xs
-copied-kept t c w xs t′ a h k r =
-    same-numbers t′ (kept t c w xs) (r .whole) (kept-whole t c w xs a)
-    (λ d u j p q l. copied-same t t c w xs t′ (kept t c w xs) r (kept-copies t c w xs a h k) d u j refl)
+pub saving-none : (t : List ℕ) (c w : ℕ) → saving t c w [] ≡ t
+saving-none t c w = placed c w (λ h k e. saving-is t c w h k []) (λ e. saving-lost t c w e [])

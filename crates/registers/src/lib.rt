@@ -2,10 +2,15 @@
 // Where there is no such core, world or number, reading gives 0 and writing changes nothing.
 ghost use mathlib.Core.Path.{_≡_};
 ghost use mathlib.Core.List.{[], _∷_};
-ghost use Rattle.registers.specs.Registers.{startOf, countOf, numberIn, shownIn, zeros, saved, shownOf, kept};
+ghost use Rattle.registers.specs.Registers.{startOf, countOf, numberIn, shownIn, zeros, shownOf, saving};
+use rules::MOST_CORES;
+use rules::WORLDS;
+
+// How many numbers are saved for each core and world.
+const EACH: usize = 9;
 
 // Eight cores, four worlds of each, nine numbers of each.
-pub type Saved = [u64; 288];
+pub type Saved = [u64; MOST_CORES as usize * WORLDS as usize * EACH];
 
 // What an accepted call's frame shows of a world: its first four numbers.
 pub struct Shown {
@@ -25,19 +30,20 @@ enum Start {
 pub fn fresh() -> Saved
     ensures { λ r. ⌜ r ≡ zeros ⌝ }
 {
-    [0; 288]
+    [0; MOST_CORES as usize * WORLDS as usize * EACH]
 }
 
 fn start_of(core: u64, world: u64) -> Start
     ensures { λ r. ⌜ r ≡ startOf core world ⌝ }
 {
-    if 8 <= core {
+    if MOST_CORES <= core {
         return Start::Nowhere;
     }
-    if 4 <= world {
+    if WORLDS <= world {
         return Start::Nowhere;
     }
-    Start::At((core as usize * 4 + world as usize) * 9)
+    let share = (core * WORLDS + world) as usize;
+    Start::At(share * EACH)
 }
 
 // A reader of the numbers of one core and world: number i of the part, 0 past its end.
@@ -63,18 +69,6 @@ fn shown_in(part: &[u64]) -> Shown
     }
 }
 
-// Number i of one core and world.
-pub fn number(t: &Saved, core: u64, world: u64, i: u64) -> u64
-    ensures { λ r. ⌜ r ≡ saved (now (t .entry)) core world i ⌝ }
-{
-    let Start::At(a) = start_of(core, world) else {
-        return 0;
-    };
-    let s: &[u64] = t;
-    let e = a + 9;
-    number_in(&s[a..e], i)
-}
-
 // x0 to x3 of one core and world.
 pub fn show(t: &Saved, core: u64, world: u64) -> Shown
     ensures { λ r. ⌜ r ≡ shownOf (now (t .entry)) core world ⌝ }
@@ -88,7 +82,7 @@ pub fn show(t: &Saved, core: u64, world: u64) -> Shown
         };
     };
     let s: &[u64] = t;
-    let e = a + 9;
+    let e = a + EACH;
     shown_in(&s[a..e])
 }
 
@@ -96,15 +90,15 @@ pub fn show(t: &Saved, core: u64, world: u64) -> Shown
 fn count_of(n: usize) -> usize
     ensures { λ r. ⌜ r ≡ countOf n ⌝ }
 {
-    if n < 9 {
+    if n < EACH {
         return n;
     }
-    9
+    EACH
 }
 
 // The numbers xs take the place of as many from x0 on; those past the ninth are ignored.
-pub fn keep(t: &mut Saved, core: u64, world: u64, xs: &[u64])
-    ensures { λ _. ⌜ now (t .exit) ≡ kept (now (t .entry)) core world (now (xs .entry)) ⌝ }
+pub fn save(t: &mut Saved, core: u64, world: u64, xs: &[u64])
+    ensures { λ _. ⌜ now (t .exit) ≡ saving (now (t .entry)) core world (now (xs .entry)) ⌝ }
 {
     let Start::At(a) = start_of(core, world) else {
         return;
@@ -118,22 +112,22 @@ pub fn keep(t: &mut Saved, core: u64, world: u64, xs: &[u64])
 }
 
 // x0 alone: the answer of a call with one result.
-pub fn keep_one(t: &mut Saved, core: u64, world: u64, v: u64)
-    ensures { λ _. ⌜ now (t .exit) ≡ kept (now (t .entry)) core world (v ∷ []) ⌝ }
+pub fn save_one(t: &mut Saved, core: u64, world: u64, v: u64)
+    ensures { λ _. ⌜ now (t .exit) ≡ saving (now (t .entry)) core world (v ∷ []) ⌝ }
 {
-    keep(t, core, world, &[v]);
+    save(t, core, world, &[v]);
 }
 
 // x0 to x2: the answer of a call with three results.
-pub fn keep_three(t: &mut Saved, core: u64, world: u64, a: u64, b: u64, c: u64)
-    ensures { λ _. ⌜ now (t .exit) ≡ kept (now (t .entry)) core world (a ∷ b ∷ c ∷ []) ⌝ }
+pub fn save_three(t: &mut Saved, core: u64, world: u64, a: u64, b: u64, c: u64)
+    ensures { λ _. ⌜ now (t .exit) ≡ saving (now (t .entry)) core world (a ∷ b ∷ c ∷ []) ⌝ }
 {
-    keep(t, core, world, &[a, b, c]);
+    save(t, core, world, &[a, b, c]);
 }
 
 // All nine, as a core finds them that arrives: the context first, then seven zeros, then where it starts.
-pub fn keep_start(t: &mut Saved, core: u64, world: u64, context: u64, address: u64)
-    ensures { λ _. ⌜ now (t .exit) ≡ kept (now (t .entry)) core world (context ∷ 0 ∷ 0 ∷ 0 ∷ 0 ∷ 0 ∷ 0 ∷ 0 ∷ address ∷ []) ⌝ }
+pub fn save_start(t: &mut Saved, core: u64, world: u64, context: u64, address: u64)
+    ensures { λ _. ⌜ now (t .exit) ≡ saving (now (t .entry)) core world (context ∷ 0 ∷ 0 ∷ 0 ∷ 0 ∷ 0 ∷ 0 ∷ 0 ∷ address ∷ []) ⌝ }
 {
-    keep(t, core, world, &[context, 0, 0, 0, 0, 0, 0, 0, address]);
+    save(t, core, world, &[context, 0, 0, 0, 0, 0, 0, 0, address]);
 }

@@ -1,23 +1,23 @@
 -- How far one feed goes: line by line, while there is room for the longest answer, up to a line that lacks its newline.
-use mathlib.Core.Path.{_≡_, refl, sym, ap, subst, _∙_}
+use mathlib.Core.Path.{_≡_, refl, sym, ap, _∙_}
 use mathlib.Core.Bool.{Bool, true, false}
 use mathlib.Core.List.{List, []}
 use Prim.Native.Nat.{ℕ, zero, suc, _+_, _-_, _≤_, _<_}
 use native.Mathlib.Omega.{arith}
 use lib.Dec.{ltb}
 use lib.ListN.{length}
-use borrow.Author.Tests.{lt-ltb, le-ltb, ltb-true, ltb-false}
-use Rattle.rules.specs.Choice.{pick, chosen, pick-yes, pick-no, either}
-use Rattle.lines.specs.Frame.{isCall, parsed}
+use borrow.Author.Tests.{lt-ltb, le-ltb}
+use Rattle.rules.specs.Choice.{pick, pick-yes, pick-no, either}
+use Rattle.rules.specs.Laid.{put}
+use Rattle.parsing.specs.Frame.{isCall}
 use Rattle.lines.specs.Lines.{endOf, lineAt, lined, nextOf, end-from}
-use Rattle.lines.specs.Input.{reading-of, Found, next-found, next-unfinished, next-inside}
-use Rattle.lines.specs.declared.Frame.{Frame}
+use Rattle.lines.specs.Input.{reading-of, next-found, next-unfinished, next-inside}
+use Rattle.parsing.specs.declared.Frame.{Frame}
 use Rattle.lines.specs.declared.Next.{Next}
 use Rattle.lines.specs.declared.Next.the-variants.{Line, Unfinished}
-use Rattle.rules.specs.Laid.{put}
-use Rattle.frames.specs.Frames.{Machine, framed}
-use Rattle.frames.specs.declared.Reply.{Reply}
-use Rattle.stream.specs.Run.{textOf, answered, numbers-idle, Feeds, Through, feeds-none, feeds-more, through-full, through-end, through-line}
+use Rattle.calling.specs.declared.Reply.{Reply}
+use Rattle.frames.specs.Frames.{Machine}
+use Rattle.answering.specs.Answer.{textOf, answered, numbers-idle, put-inside}
 
 -- where a feed stands: the machine, how far it has read, and how much of what it prints to
 pub record Stand : Type 0 where
@@ -48,7 +48,7 @@ unfoldable pub fed : List ℕ → Stand → Stand
 fed s d = fedIn (length s - d .read) s d
 
 -- by what stands next
-by-next : (s : List ℕ) (P : Stand → Type 0) (d : Stand) (go : Stand → Stand) → ((xs : List ℕ) → nextOf s (d .read) [] ≡ (Unfinished, xs) → P d)
+pub by-next : (s : List ℕ) (P : Stand → Type 0) (d : Stand) (go : Stand → Stand) → ((xs : List ℕ) → nextOf s (d .read) [] ≡ (Unfinished, xs) → P d)
     → ((f : Frame) (after : ℕ) (xs : List ℕ) → nextOf s (d .read) [] ≡ (Line f after, xs) → P (go (stepped d f after xs)))
     → (q : Next × List ℕ) → nextOf s (d .read) [] ≡ q → P (onward d go q)
 by-next s P d go n y (Line f after, xs) e = y f after xs e
@@ -133,35 +133,6 @@ module _ (s : List ℕ) where
         ∙ enough (length s - d .read - 1) (length s - after) (stepped d f after (pick (isCall f) ys [])) (omega arith) (omega arith)
         ∙ ap (λ (q : Machine × Reply). fedIn (length s - after) s (stand (q .0) after (put (d .out) (d .done) (textOf (q .1)) .0) (put (d .out) (d .done) (textOf (q .1)) .1))) (numbers-idle (d .machine) f ys)))
 
-  -- ---- what is printed in all, and the machine in the end, do not depend on how far it goes
-  feeds-in : (n : ℕ) (d : Stand) (m₀ : Machine) (at₀ : ℕ) (out₀ : List ℕ) (done₀ : ℕ) → Feeds s m₀ at₀ out₀ done₀ (d .machine) (d .read) (d .out) (d .done)
-      → let q = fedIn n s d in Feeds s m₀ at₀ out₀ done₀ (q .machine) (q .read) (q .out) (q .done)
-  unfolding fedIn
-  feeds-in zero d m₀ at₀ out₀ done₀ f = f
-  feeds-in (suc n) d m₀ at₀ out₀ done₀ f =
-      chosen (λ (q : Stand). Feeds s m₀ at₀ out₀ done₀ (q .machine) (q .read) (q .out) (q .done)) (ltb (length (d .out) - d .done) 71) d _ (λ y. f)
-      (λ k. by-next s (λ (q : Stand). Feeds s m₀ at₀ out₀ done₀ (q .machine) (q .read) (q .out) (q .done)) d (fedIn n s) (λ xs e. f)
-      (λ g after xs e. feeds-in n (stepped d g after xs) m₀ at₀ out₀ done₀ (feeds-more s [] xs (d .read) (d .machine) g after (sym e) m₀ at₀ out₀ done₀ (d .out) (d .done) f (ltb-false _ _ k) _ _ _ refl))
-      (nextOf s (d .read) []) refl)
-
-  through-in : (n : ℕ) (d : Stand) → length s - d .read ≤ n → let q = fedIn n s d in Through s (q .read) (q .out) (q .done)
-  unfolding fedIn
-  through-in zero d h = through-end s (d .read) (d .out) (d .done) (omega arith)
-  through-in (suc n) d h =
-      chosen (λ (q : Stand). Through s (q .read) (q .out) (q .done)) (ltb (length (d .out) - d .done) 71) d _ (λ y. through-full s (d .read) (d .out) (d .done) (ltb-true _ _ y))
-      (λ k. by-next s (λ (q : Stand). Through s (q .read) (q .out) (q .done)) d (fedIn n s)
-      (λ xs e. through-line s (d .read) (d .out) (d .done) Unfinished [] xs (sym e) refl)
-      (λ g after xs e. let i = next-inside s [] xs (d .read) g after (sym e) in through-in n (stepped d g after xs) (omega arith))
-      (nextOf s (d .read) []) refl)
-
--- What a feed from the front prints, and then what is printed for the rest, is what is printed for all; and where the longest answer still fits it leaves nothing but a line without its newline.
-pub fed-feeds : (s : List ℕ) (m : Machine) (out : List ℕ) (m′ : Machine) (at′ done′ : ℕ) (out′ : List ℕ) → stand m′ at′ done′ out′ ≡ fed s (stand m 0 0 out)
-    → Feeds s m 0 out 0 m′ at′ out′ done′ × Through s at′ out′ done′
-unfolding fed
-fed-feeds s m out m′ at′ done′ out′ e =
-    subst (λ (q : Stand). Feeds s m 0 out 0 (q .machine) (q .read) (q .out) (q .done) × Through s (q .read) (q .out) (q .done)) (sym e)
-    (feeds-in s (length s - 0) (stand m 0 0 out) m 0 out 0 (feeds-none s m out), through-in s (length s - 0) (stand m 0 0 out) (omega arith))
-
 -- ---- how the code's branches meet these
 module _ (s : List ℕ) (m : Machine) (at done : ℕ) (out : List ℕ) (o : Stand) (inv : fed s (stand m at done out) ≡ o) where
   pub stops-full : length out - done < 71 → stand m at done out ≡ o
@@ -180,3 +151,11 @@ module _ (s : List ℕ) (m : Machine) (at done : ℕ) (out : List ℕ) (o : Stan
         ap (λ (q : Machine × (ℕ × List ℕ)). fed s (stand (q .0) after (q .1 .0) (q .1 .1))) a ∙ fed-line s (stand m at done out) k xs ys e f after is h ∙ inv
 
 pub ruleset stops = (stops-full, stops-end, stops-unfinished)
+
+-- a line more has been read, and what is printed still ends inside
+module _ (s xs ys : List ℕ) (at : ℕ) (k : Next) (next : (k, ys) ≡ nextOf s at xs) (f : Frame) (after : ℕ) (is : k ≡ Line f after) where
+  pub reads-on : length s - after < length s - at
+  reads-on = let n = next-inside s xs ys at f after (rw is at next) in omega arith
+
+pub ends-inside : (m m′ : Machine) (f : Frame) (xs out out′ : List ℕ) (done done′ : ℕ) → (m′, (done′, out′)) ≡ answered m f xs out done → done ≤ length out → (done′ ≤ length out′) × (length out′ ≡ length out)
+ends-inside m m′ f xs out out′ done done′ e h = put-inside out done _ done′ out′ (ap (λ (q : Machine × (ℕ × List ℕ)). q .1) e) h

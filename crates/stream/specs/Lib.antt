@@ -1,3 +1,5 @@
 pub mod Run
 pub mod Fed
 pub mod Parts
+pub mod Cut
+pub mod Whole

@@ -1,26 +1,16 @@
 -- The text of answers: lower-case hexadecimal, numbers big-endian, and a newline.
-use mathlib.Core.Path.{_≡_, refl, sym, ap, _∙_}
-use mathlib.Core.Bool.{Bool}
+use mathlib.Core.Path.{_≡_, refl, ap, _∙_}
 use mathlib.Core.List.{List, [], _∷_, _++_}
-use Prim.Native.Nat.{ℕ, zero, suc, _+_, _-_, _/_, _%_, _≤_, _<_}
-use native.Mathlib.Nat.{add-zero}
-use native.Mathlib.Numerals.{add-one}
+use Prim.Native.Nat.{ℕ, _+_, _≤_, _<_}
 use native.Mathlib.Omega.{arith}
-use lib.Dec.{eqb}
-use lib.ListN.{length, getD, set, length-append, length-set}
-use lib.Seq.{sets, set-comm}
-use borrow.Author.Tests.{eqb-true}
-use Rattle.rules.specs.Choice.{pick}
-use Rattle.rules.specs.Search.{all, all-at}
-use Rattle.rules.specs.Laid.{laid, put, then, put-fits, put-not}
-use Rattle.lines.specs.Hex.{signOf}
-use Rattle.lines.specs.Frame.{statusByte}
-use Rattle.lines.specs.declared.Status.{Status}
-
--- the last n hexadecimal digits of x
-unfoldable pub inHex : ℕ → ℕ → List ℕ
-inHex zero x = []
-inHex (suc n) x = inHex n (x / 16) ++ signOf (x % 16) ∷ []
+use lib.ListN.{length, set, length-append}
+use borrow.Author.Tests.{le-leb}
+use Rattle.rules.specs.Choice.{pick-yes}
+use Rattle.rules.specs.Laid.{laid, put, laid-one, length-laid, laid-append, put-fits, put-not}
+use Rattle.hex.specs.Hex.{inHex, length-hex}
+use Rattle.hex_write.specs.Digits.{fourText, length-four}
+use Rattle.parsing.specs.Frame.{statusByte}
+use Rattle.parsing.specs.declared.Status.{Status}
 
 -- a0 and the status
 unfoldable pub statusText : Status → List ℕ
@@ -30,74 +20,11 @@ statusText s = inHex 2 0xa0 ++ (inHex 2 (statusByte s) ++ (10 ∷ []))
 unfoldable pub headText : ℕ → ℕ → List ℕ
 headText core world = inHex 2 0xa1 ++ (inHex 2 core ++ inHex 2 world)
 
--- x0 to x3
-unfoldable pub shownText : ℕ → ℕ → ℕ → ℕ → List ℕ
-shownText x0 x1 x2 x3 = inHex 16 x0 ++ (inHex 16 x1 ++ (inHex 16 x2 ++ inHex 16 x3))
-
+-- these and x0 to x3
 unfoldable pub callText : ℕ → ℕ → ℕ → ℕ → ℕ → ℕ → List ℕ
-callText core world x0 x1 x2 x3 = headText core world ++ (shownText x0 x1 x2 x3 ++ (10 ∷ []))
+callText core world x0 x1 x2 x3 = headText core world ++ (fourText x0 x1 x2 x3 ++ (10 ∷ []))
 
--- a table of the signs of the sixteen digits
-pub record Signs (t : List ℕ) : Type 0 where
-  pub sign : (d : ℕ) → d < 16 → getD t d 0 ≡ signOf d
-
-pub sixteen : Signs (48 ∷ 49 ∷ 50 ∷ 51 ∷ 52 ∷ 53 ∷ 54 ∷ 55 ∷ 56 ∷ 57 ∷ 97 ∷ 98 ∷ 99 ∷ 100 ∷ 101 ∷ 102 ∷ [])
-unfolding all signOf pick
-sixteen =
-    let t : List ℕ = 48 ∷ 49 ∷ 50 ∷ 51 ∷ 52 ∷ 53 ∷ 54 ∷ 55 ∷ 56 ∷ 57 ∷ 97 ∷ 98 ∷ 99 ∷ 100 ∷ 101 ∷ 102 ∷ [] in
-    let right : ℕ → Bool = λ d. eqb (getD t d 0) (signOf d) in
-    record { sign = λ d h. eqb-true _ _ (all-at right 0 16 d refl (omega arith) (omega arith)) }
-
--- ---- digits, the last first
--- the last of a run of stores may come first
-sets-snoc : (vs l : List ℕ) (i a : ℕ) → sets l i (vs ++ a ∷ []) ≡ sets (set l (i + length vs) a) i vs
-sets-snoc [] l i a = rw add-zero
-sets-snoc (v ∷ vs) l i a =
-    let e : suc i + length vs ≡ i + suc (length vs) = omega arith in
-    let n : i ≡ suc i + length vs → ⊥ = λ q. omega arith in
-    sets-snoc vs (set l i v) (suc i) a ∙ rw (set-comm l i (suc i + length vs) v a n, e)
-
-pub length-hex : (n x : ℕ) → length (inHex n x) ≡ n
-unfolding inHex
-length-hex zero x = refl
-length-hex (suc n) x = length-append (inHex n (x / 16)) (signOf (x % 16) ∷ []) ∙ rw (length-hex n (x / 16), add-one)
-
-sets-digit : (l : List ℕ) (at k x : ℕ) → sets l at (inHex (suc k) x) ≡ sets (set l (at + k) (signOf (x % 16))) at (inHex k (x / 16))
-unfolding inHex
-sets-digit l at k x = sets-snoc (inHex k (x / 16)) l at (signOf (x % 16)) ∙ rw (length-hex k (x / 16))
-
--- k digits of y are left to be put before those that stand there
-pub record Digits (out₀ out : List ℕ) (at n x k y : ℕ) : Type 0 where
-  pub most : k ≤ n
-  pub size : length out ≡ length out₀
-  pub left : laid out at (inHex k y) ≡ laid out₀ at (inHex n x)
-
-pub digits-all : (out : List ℕ) (at n x : ℕ) → Digits out out at n x n x
-digits-all out at n x = record { most = omega arith; size = refl; left = refl }
-
-module _ (out₀ out : List ℕ) (at n x k y : ℕ) (d : Digits out₀ out at n x k y) where
-  pub digits-less : (t : List ℕ) → Signs t → 0 < k → Digits out₀ (set out (at + (k - 1)) (getD t (y % 16) 0)) at n x (k - 1) (y / 16)
-  unfolding laid
-  digits-less t s h =
-      let p : suc (k - 1) ≡ k = omega arith in
-      record {
-        most = omega (arith, d .most);
-        size = length-set out (at + (k - 1)) (getD t (y % 16) 0) ∙ d .size;
-        left = rw (s .sign (y % 16) (omega arith)) (sym (sets-digit out at (k - 1) y) ∙ rw p (d .left));
-      }
-
-  pub digits-none : k ≤ 0 → out ≡ laid out₀ at (inHex n x)
-  unfolding inHex laid
-  digits-none h = let z : 0 ≡ k = omega arith in ap (λ (j : ℕ). sets out at (inHex j y)) z ∙ d .left
-
-module _ (o o₁ o₂ o₃ : List ℕ) (at : ℕ) where
-  pub head-put :
-      (core world : ℕ) → o₁ ≡ laid o at (inHex 2 0xa1) → o₂ ≡ laid o₁ (at + 2) (inHex 2 core) → o₃ ≡ laid o₂ (at + 4) (inHex 2 world) →
-      o₃ ≡ laid o at (headText core world)
-  unfolding headText
-  head-put core world a b c = then _ _ _ _ _ _ _ 2 (length-hex 2 0xa1) refl a (then _ _ _ _ _ _ _ 2 (length-hex 2 core) (omega arith) b c)
-
--- ---- a whole answer, put or not
+-- ---- the size of each
 pub length-status : (s : Status) → length (statusText s) ≡ 5
 unfolding statusText
 length-status s = simp (length-append, length-hex)
@@ -106,31 +33,68 @@ length-head : (core world : ℕ) → length (headText core world) ≡ 6
 unfolding headText
 length-head core world = simp (length-append, length-hex)
 
-length-shown : (x0 x1 x2 x3 : ℕ) → length (shownText x0 x1 x2 x3) ≡ 64
-unfolding shownText
-length-shown x0 x1 x2 x3 = simp (length-append, length-hex)
-
 pub length-call : (core world x0 x1 x2 x3 : ℕ) → length (callText core world x0 x1 x2 x3) ≡ 71
 unfolding callText
-length-call core world x0 x1 x2 x3 = simp (length-append, length-head, length-shown)
+length-call core world x0 x1 x2 x3 = simp (length-append, length-head, length-four)
 
-module _ (o o₁ o₂ o₃ : List ℕ) (at : ℕ) where
+-- ---- texts put one behind the other, where there is room for all
+-- where one fits it was laid, and the place behind it is known
+record Laid (o o′ : List ℕ) (at a n : ℕ) (v : List ℕ) : Type 0 where
+  place : a ≡ at + n
+  is : o′ ≡ laid o at v
+  size : length o′ ≡ length o
+
+was-put : (o o′ : List ℕ) (at a n : ℕ) (v : List ℕ) → length v ≡ n → at + n ≤ length o → (a, o′) ≡ put o at v → Laid o o′ at a n v
+unfolding put
+was-put o o′ at a n v h g e =
+    let p : _≡_ {A = ℕ × List ℕ} (a, o′) (at + length v, laid o at v) = e ∙ pick-yes _ _ _ (le-leb (at + length v) (length o) (omega arith)) in
+    let is : o′ ≡ laid o at v = ap (λ (q : ℕ × List ℕ). q .1) p in
+    record { place = ap (λ (q : ℕ × List ℕ). q .0) p ∙ omega arith; is = is; size = ap length is ∙ length-laid o at v }
+
+put-then :
+    (o o′ p : List ℕ) (at a b m n : ℕ) (v w : List ℕ) → length v ≡ m → length w ≡ n → at + (m + n) ≤ length o →
+    (a, o′) ≡ put o at v → (b, p) ≡ put o′ a w → (b, p) ≡ put o at (v ++ w)
+put-then o o′ p at a b m n v w h k g e f =
+    let c = was-put o o′ at a m v h (omega arith) e in
+    let d = was-put o′ p a b n w k (omega (arith, c .place, c .size)) f in
+    let z : a ≡ at + length v = omega (arith, c .place) in
+    let i : b ≡ at + (m + n) = omega (arith, c .place, d .place) in
+    rw i (put-fits o at (v ++ w) (m + n) (length-append v w ∙ omega arith) p g (d .is ∙ rw (c .is, z) (laid-append v w o at)))
+
+-- three of them
+put-three :
+    (o o₁ o₂ p : List ℕ) (at a b c k m n : ℕ) (u v w : List ℕ) → length u ≡ k → length v ≡ m → length w ≡ n → at + (k + (m + n)) ≤ length o →
+    (a, o₁) ≡ put o at u → (b, o₂) ≡ put o₁ a v → (c, p) ≡ put o₂ b w → (c, p) ≡ put o at (u ++ (v ++ w))
+put-three o o₁ o₂ p at a b c k m n u v w hu hv hw g x y z =
+    let d = was-put o o₁ at a k u hu (omega arith) x in
+    put-then o o₁ p at a c k (m + n) u (v ++ w) hu (length-append v w ∙ omega arith) g x
+    (put-then o₁ o₂ p a b c m n v w hv hw (omega (arith, d .place, d .size)) y z)
+
+-- ---- a whole answer, put or not
+pub end-put : (o : List ℕ) (at : ℕ) → at < length o → (at + 1, set o at 10) ≡ put o at (10 ∷ [])
+end-put o at h = put-fits o at (10 ∷ []) 1 refl (set o at 10) (omega arith) (laid-one o at 10)
+
+pub end-not : (o : List ℕ) (at : ℕ) → length o ≤ at → (at, o) ≡ put o at (10 ∷ [])
+end-not o at h = put-not o at (10 ∷ []) 1 refl (omega arith)
+
+module _ (o o₁ o₂ p : List ℕ) (at a b c : ℕ) where
+  pub head-put :
+      (core world : ℕ) → at + 6 ≤ length o →
+      (a, o₁) ≡ put o at (inHex 2 0xa1) → (b, o₂) ≡ put o₁ a (inHex 2 core) → (c, p) ≡ put o₂ b (inHex 2 world) → (c, p) ≡ put o at (headText core world)
+  unfolding headText
+  head-put core world h = put-three o o₁ o₂ p at a b c 2 2 2 _ _ _ (length-hex 2 0xa1) (length-hex 2 core) (length-hex 2 world) h
+
   pub status-put :
-      (s : Status) (b : ℕ) → b ≡ statusByte s → at + 5 ≤ length o →
-      o₁ ≡ laid o at (inHex 2 0xa0) → o₂ ≡ laid o₁ (at + 2) (inHex 2 b) → o₃ ≡ laid o₂ (at + 4) (10 ∷ []) → (at + 5, o₃) ≡ put o at (statusText s)
+      (s : Status) (k : ℕ) → k ≡ statusByte s → at + 5 ≤ length o →
+      (a, o₁) ≡ put o at (inHex 2 0xa0) → (b, o₂) ≡ put o₁ a (inHex 2 k) → (c, p) ≡ put o₂ b (10 ∷ []) → (c, p) ≡ put o at (statusText s)
   unfolding statusText
-  status-put s b e h x y z =
-      put-fits o at (statusText s) 5 (length-status s) o₃ h
-      (then _ _ _ _ _ _ _ 2 (length-hex 2 0xa0) refl x (then _ o₂ _ _ _ _ _ 2 (length-hex 2 (statusByte s)) (omega arith) (y ∙ ap (λ (k : ℕ). laid o₁ (at + 2) (inHex 2 k)) e) z))
+  status-put s k e h x y z = put-three o o₁ o₂ p at a b c 2 2 1 _ _ _ (length-hex 2 0xa0) (length-hex 2 (statusByte s)) refl h x (rw e at y) z
 
   pub call-put :
       (core world x0 x1 x2 x3 : ℕ) → at + 71 ≤ length o →
-      o₁ ≡ laid o at (headText core world) → o₂ ≡ laid o₁ (at + 6) (shownText x0 x1 x2 x3) → o₃ ≡ laid o₂ (at + 70) (10 ∷ []) →
-      (at + 71, o₃) ≡ put o at (callText core world x0 x1 x2 x3)
+      (a, o₁) ≡ put o at (headText core world) → (b, o₂) ≡ put o₁ a (fourText x0 x1 x2 x3) → (c, p) ≡ put o₂ b (10 ∷ []) → (c, p) ≡ put o at (callText core world x0 x1 x2 x3)
   unfolding callText
-  call-put core world x0 x1 x2 x3 h x y z =
-      put-fits o at (callText core world x0 x1 x2 x3) 71 (length-call core world x0 x1 x2 x3) o₃ h
-      (then _ _ _ _ _ _ _ 6 (length-head core world) refl x (then _ _ _ _ _ _ _ 64 (length-shown x0 x1 x2 x3) (omega arith) y z))
+  call-put core world x0 x1 x2 x3 h = put-three o o₁ o₂ p at a b c 6 64 1 _ _ _ (length-head core world) (length-four x0 x1 x2 x3) refl h
 
 pub status-not : (o : List ℕ) (at : ℕ) (s : Status) → length o < at + 5 → (at, o) ≡ put o at (statusText s)
 status-not o at s h = put-not o at (statusText s) 5 (length-status s) h

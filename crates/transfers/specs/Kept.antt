@@ -1,6 +1,6 @@
 -- What a granted transfer says, and what it leaves: the owner of each page, and the mappings of every world.
 use mathlib.Core.Path.{_≡_, refl}
-use mathlib.Core.Bool.{true, false, not}
+use mathlib.Core.Bool.{true, false}
 use mathlib.Core.List.{List, [], _∷_}
 use Prim.Native.Nat.{ℕ, _+_, _≤_, _<_}
 use native.Mathlib.Omega.{arith}
@@ -8,8 +8,8 @@ use lib.Dec.{eqb}
 use borrow.Author.Tests.{eqb-false, not-false}
 use Rattle.rules.specs.Tests.{Test, Clear, refuses, sieve, sieved}
 use Rattle.rules.specs.declared.Reason.{Reason}
-use Rattle.rules.specs.declared.Reason.the-variants.{WrongOwner, NoPages, Mapped}
-use Rattle.pages.specs.Sizes.{lastWorld, mostPages}
+use Rattle.rules.specs.declared.Reason.the-variants.{NoPages}
+use Rattle.rules.specs.Sizes.{lastWorld, mostPages}
 use Rattle.pages.specs.Window.{acceptable, runOf, either-place}
 use Rattle.pages.specs.Owners.{WholeOwners, owner, owned, given, owned-at, owned-ends, given-whole, given-inside, given-outside, given-worlds}
 use Rattle.pages.specs.declared.Window.{Window}
@@ -17,7 +17,7 @@ use Rattle.pages.specs.declared.Place.{Place}
 use Rattle.pages.specs.declared.Place.the-variants.{Page, Outside}
 use Rattle.mapping.specs.Mapping.{meetsRun}
 use Rattle.mapping.specs.Sound.{Sound, unmet-run, given-keeps}
-use Rattle.mapping.specs.declared.Mapping.{Mapping}
+use Rattle.ranges.specs.declared.Mapping.{Mapping}
 use Rattle.transfers.specs.Transfer.{moveTests, moveVerdict, severalVerdict, carriedTo, carried}
 use Rattle.transfers.specs.declared.Verdict.{Verdict}
 use Rattle.transfers.specs.declared.Verdict.the-variants.{Granted, No}

@@ -1,11 +1,10 @@
 -- One operation moves a run of pages from one world to another: its tests in the paper's order, and its one effect.
-use mathlib.Core.Path.{_≡_, refl, sym, ap, _∙_}
-use mathlib.Core.Bool.{Bool, true, false, not}
+use mathlib.Core.Path.{_≡_}
+use mathlib.Core.Bool.{not}
 use mathlib.Core.List.{List, [], _∷_}
 use Prim.Native.Nat.{ℕ}
 use lib.Dec.{eqb}
-use Rattle.rules.specs.Tests.{Test, refuses, sieve, contraries}
-use Rattle.rules.specs.declared.Reason.{Reason}
+use Rattle.rules.specs.Tests.{refuses, sieve, contraries}
 use Rattle.rules.specs.declared.Reason.the-variants.{Invalid, WrongOwner, NoPages, Mapped}
 use Rattle.pages.specs.Window.{runOf}
 use Rattle.pages.specs.Owners.{owned, given}
@@ -13,7 +12,7 @@ use Rattle.pages.specs.declared.Window.{Window}
 use Rattle.pages.specs.declared.Place.{Place}
 use Rattle.pages.specs.declared.Place.the-variants.{Page, Outside}
 use Rattle.mapping.specs.Mapping.{meetsRun}
-use Rattle.mapping.specs.declared.Mapping.{Mapping}
+use Rattle.ranges.specs.declared.Mapping.{Mapping}
 use Rattle.transfers.specs.declared.Verdict.{Verdict}
 use Rattle.transfers.specs.declared.Verdict.the-variants.{Granted, No}
 

@@ -4,8 +4,8 @@ use Rattle.answers.specs.Laws.{answered}
 use Rattle.answers.proofs.answer_call.Statement.{statement}
 use Rattle.answers.proofs.answer_call.Tie as tie
 
-keep-requires : tie.Need-keep-requires
-keep-requires c κs = search needs
+save-requires : tie.Need-save-requires
+save-requires c κs = search needs
 
 element-copy-out-of : tie.Need-element-copy-out-of
 element-copy-out-of c = search needs
@@ -26,7 +26,7 @@ pub answer-call-spec : {M : Type 1} → statement M
 answer-call-spec =
     tie.close
     (tie.spec
-    keep-requires
+    save-requires
     element-copy-out-of
     of-requires
     split-requires

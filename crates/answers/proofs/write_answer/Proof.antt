@@ -7,38 +7,38 @@ use Rattle.answers.proofs.write_answer.Tie as tie
 enum-told : tie.Need-enum-told
 enum-told c = search needs
 
-keep-one-requires : tie.Need-keep-one-requires
-keep-one-requires c κs = search needs
+save-one-requires : tie.Need-save-one-requires
+save-one-requires c κs = search needs
 
 enum-told-2 : tie.Need-enum-told-2
 enum-told-2 c = search needs
 
-keep-one-requires-2 : tie.Need-keep-one-requires-2
-keep-one-requires-2 c κs = search needs
+save-one-requires-2 : tie.Need-save-one-requires-2
+save-one-requires-2 c κs = search needs
 
 enum-told-3 : tie.Need-enum-told-3
 enum-told-3 c = search needs
 
-keep-one-requires-3 : tie.Need-keep-one-requires-3
-keep-one-requires-3 c κs = search needs
+save-one-requires-3 : tie.Need-save-one-requires-3
+save-one-requires-3 c κs = search needs
 
 enum-told-4 : tie.Need-enum-told-4
 enum-told-4 c = search needs
 
-keep-one-requires-4 : tie.Need-keep-one-requires-4
-keep-one-requires-4 c κs = search needs
+save-one-requires-4 : tie.Need-save-one-requires-4
+save-one-requires-4 c κs = search needs
 
 enum-told-5 : tie.Need-enum-told-5
 enum-told-5 c = search needs
 
-keep-one-requires-5 : tie.Need-keep-one-requires-5
-keep-one-requires-5 c κs = search needs
+save-one-requires-5 : tie.Need-save-one-requires-5
+save-one-requires-5 c κs = search needs
 
 enum-told-6 : tie.Need-enum-told-6
 enum-told-6 c = search needs
 
-keep-one-requires-6 : tie.Need-keep-one-requires-6
-keep-one-requires-6 c κs = search needs
+save-one-requires-6 : tie.Need-save-one-requires-6
+save-one-requires-6 c κs = search needs
 
 enum-known-a : tie.Need-enum-known-a
 enum-known-a c = search needs
@@ -46,20 +46,20 @@ enum-known-a c = search needs
 bit-of-requires : tie.Need-bit-of-requires
 bit-of-requires c κs = search needs
 
-keep-one-requires-7 : tie.Need-keep-one-requires-7
-keep-one-requires-7 c κs = search needs
+save-one-requires-7 : tie.Need-save-one-requires-7
+save-one-requires-7 c κs = search needs
 
 enum-known-a-2 : tie.Need-enum-known-a-2
 enum-known-a-2 c = search needs
 
-keep-three-requires : tie.Need-keep-three-requires
-keep-three-requires c κs = search needs
+save-three-requires : tie.Need-save-three-requires
+save-three-requires c κs = search needs
 
 enum-known-a-3 : tie.Need-enum-known-a-3
 enum-known-a-3 c = search needs
 
-keep-one-requires-8 : tie.Need-keep-one-requires-8
-keep-one-requires-8 c κs = search needs
+save-one-requires-8 : tie.Need-save-one-requires-8
+save-one-requires-8 c κs = search needs
 
 enum-told-7 : tie.Need-enum-told-7
 enum-told-7 c = search needs
@@ -70,8 +70,8 @@ enum-known-a-4 c = search needs
 negative-of-requires : tie.Need-negative-of-requires
 negative-of-requires c κs = search needs
 
-keep-one-requires-9 : tie.Need-keep-one-requires-9
-keep-one-requires-9 c κs = search needs
+save-one-requires-9 : tie.Need-save-one-requires-9
+save-one-requires-9 c κs = search needs
 
 returns : tie.Need-returns
 returns c = search answers
@@ -111,28 +111,28 @@ write-answer-spec =
     tie.close
     (tie.spec
     enum-told
-    keep-one-requires
+    save-one-requires
     enum-told-2
-    keep-one-requires-2
+    save-one-requires-2
     enum-told-3
-    keep-one-requires-3
+    save-one-requires-3
     enum-told-4
-    keep-one-requires-4
+    save-one-requires-4
     enum-told-5
-    keep-one-requires-5
+    save-one-requires-5
     enum-told-6
-    keep-one-requires-6
+    save-one-requires-6
     enum-known-a
     bit-of-requires
-    keep-one-requires-7
+    save-one-requires-7
     enum-known-a-2
-    keep-three-requires
+    save-three-requires
     enum-known-a-3
-    keep-one-requires-8
+    save-one-requires-8
     enum-told-7
     enum-known-a-4
     negative-of-requires
-    keep-one-requires-9
+    save-one-requires-9
     returns
     returns-2
     returns-3

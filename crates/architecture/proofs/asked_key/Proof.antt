@@ -6,11 +6,11 @@ use Rattle.architecture.proofs.asked_key.Tie as tie
 of-requires : tie.Need-of-requires
 of-requires c κs = search needs
 
-matched-requires : tie.Need-matched-requires
-matched-requires c κs = search needs
+key-requires : tie.Need-key-requires
+key-requires c κs = search needs
 
 returns : tie.Need-returns
-returns c = rw (← c .before .of .ensures) (c .matched .ensures)
+returns c = rw (← c .before .of .ensures) (c .key .ensures)
 
 pub asked-key-spec : {M : Type 1} → statement M
-asked-key-spec = tie.close (tie.spec of-requires matched-requires returns)
+asked-key-spec = tie.close (tie.spec of-requires key-requires returns)

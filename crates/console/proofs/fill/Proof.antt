@@ -3,10 +3,6 @@ use lib.Seq.{take-at, length-take-le}
 use borrow.Author.Needs.{needs}
 use Rattle.console.proofs.fill.Statement.{statement}
 use Rattle.console.proofs.fill.Tie as tie
-use Rattle.console.proofs.fill.Reads as reads
-use Rattle.console.proofs.fill.Lts as lts
-use Rattle.io.proofs.count.Reads as count-reads
-use Rattle.libc.proofs.read.Reads as read-reads
 
 sub-read : tie.Need-sub-read
 sub-read c = search needs

@@ -1,46 +1,40 @@
--- Each turn keeps what was read in step with what waits of it; the count of reads falls, since nothing says that an input ends.
 use borrow.Author.Needs.{needs}
-use lib.ListN.{length}
-use mathlib.Core.Path.{_≡_, refl, _∙_}
-use native.Mathlib.Omega.{arith}
-use borrow.Author.Tests.{eqb-true, not-false}
+use mathlib.Core.Path.{refl}
 use Rattle.rules.specs.Choice.{yes-or-no}
 use Rattle.frames.specs.Frames.{machine}
-use Rattle.console.specs.Loop.{Serving, serving-none, line-same, serving-on, served}
+use Rattle.console.specs.Loop.{Serving, serving-none, serving-on, served-all}
+use Rattle.waiting.specs.Handed.{put-inside}
 use Rattle.console.proofs.serve.Statement.{statement}
 use Rattle.console.proofs.serve.Tie as tie
 
 abbrev Inv-loop : tie.InvT-loop
-Inv-loop buf₀ out₀ book₀ named₀ owners₀ saved₀ powers₀ turns₀ lists₀ s₀ kept₀ left₀ buf out book named owners saved powers turns lists s kept left =
-    Serving (machine s₀ named₀ book₀ owners₀ saved₀ powers₀ turns₀ lists₀) (machine s named book owners saved powers turns lists) buf kept × (length buf ≡ length buf₀) × (length out ≡ length out₀)
+Inv-loop buf₀ out₀ setup₀ named₀ book₀ owners₀ saved₀ powers₀ turns₀ lists₀ kept₀ left₀ buf out setup named book owners saved powers turns lists kept left =
+    Serving (machine setup₀ named₀ book₀ owners₀ saved₀ powers₀ turns₀ lists₀) (machine setup named book owners saved powers turns lists) buf kept
 
 abbrev μ-loop : tie.MeasureT-loop
-μ-loop buf₀ out₀ book₀ named₀ owners₀ saved₀ powers₀ turns₀ lists₀ s₀ kept₀ left₀ buf out book named owners saved powers turns lists s kept left =
+μ-loop buf₀ out₀ setup₀ named₀ book₀ owners₀ saved₀ powers₀ turns₀ lists₀ kept₀ left₀ buf out setup named book owners saved powers turns lists kept left =
     left
 
 loop-holds : tie.Need-loop-holds Inv-loop μ-loop
-loop-holds c = search (needs, serving-none)
+loop-holds c = search serving-none
 
 fill-requires : tie.Need-fill-requires Inv-loop μ-loop
 fill-requires c κs = search needs
 
-turn-requires : tie.Need-turn-requires Inv-loop μ-loop
-turn-requires c κs =
-    let v = c .before .before .before .before .before .before .before .before .before .before .before .before .before .before .loop .inv in
-    let f = c .before .before .before .before .before .before .before .before .before .before .before .fill in
-    let k = c .before .before .before .before .before .before .before .before .before .before .before .before .before .before .before .before .before .pre in
-    (omega (arith, v .0 .waits .few, v .1, f .kept .0, k .0), f .ensures .1, line-same (v .0) (f .last .0) (f .result) (f .ensures .2), omega (arith, v .2, k .1))
+answer-read-requires : tie.Need-answer-read-requires Inv-loop μ-loop
+answer-read-requires c κs = search needs
 
-same-length : tie.Need-same-length Inv-loop μ-loop
-same-length c = c .before .before .before .before .before .before .before .turn .kept .1 .0 ∙ c .before .before .before .before .before .before .before .before .before .before .before .before .before .before .before .before .before .before .before .fill .kept .0 ∙ c .before .before .before .before .before .before .before .before .before .before .before .before .before .before .before .before .before .before .before .before .before .before .loop .inv .1
-
-same-length-2 : tie.Need-same-length-2 Inv-loop μ-loop
-same-length-2 c = c .before .before .before .before .before .before .before .turn .kept .1 .1 .1 .1 .0 ∙ c .before .before .before .before .before .before .before .before .before .before .before .before .before .before .before .before .before .before .before .before .before .before .loop .inv .2
+write-requires : tie.Need-write-requires Inv-loop μ-loop
+write-requires c κs = put-inside _ _ _ _ _ _ _ (c .before .answer-read .ensures)
 
 returns : tie.Need-returns Inv-loop μ-loop
-returns c y =
-    let f = c .before .before .before .before .before .before .before .before .before .before .before .before .before .before .before .before .before .before .before .fill in
-    served (c .before .before .before .before .before .before .before .before .before .before .before .before .before .before .before .before .before .before .before .before .before .before .loop .inv .0) (f .last .0) (f .result) (f .ensures .2) (c .before .before .before .before .before .before .before .turn .ensures) (eqb-true _ _ y)
+returns c y = absurd (yes-or-no _ y refl)
+
+returns-2 : tie.Need-returns-2 Inv-loop μ-loop
+returns-2 c y =
+    let v = c .before .before .before .before .before .before .before .before .before .before .before .before .before .before .before .before .before .before .loop .inv in
+    let f = c .before .before .before .before .before .before .before .before .before .before .before .before .before .before .before .fill in
+    served-all _ _ _ _ v _ _ (f .ensures .2) _ _ _ _ _ (c .before .before .before .before .answer-read .ensures) (search needs) (search needs)
 
 sub-left : tie.Need-sub-left Inv-loop μ-loop
 sub-left c = search needs
@@ -49,20 +43,10 @@ loop-less : tie.Need-loop-less Inv-loop μ-loop
 loop-less c = search needs
 
 loop-again : tie.Need-loop-again Inv-loop μ-loop
-loop-again c =
-    let v = c .before .before .before .before .before .before .before .before .before .before .before .before .before .before .before .before .before .before .before .before .before .before .loop .inv in
-    let f = c .before .before .before .before .before .before .before .before .before .before .before .before .before .before .before .before .before .before .before .fill in
-    let t = c .before .before .before .before .before .before .before .turn in
-    (serving-on (v .0) (f .last .0) (f .result) (f .ensures .2) (t .ensures) (not-false _ (c .if1 .left)) (f .ensures .0), t .kept .1 .0 ∙ f .kept .0 ∙ v .1, t .kept .1 .1 .1 .1 .0 ∙ v .2)
+loop-again c = search (needs, serving-on)
 
-same-length-3 : tie.Need-same-length-3 Inv-loop μ-loop
-same-length-3 c = search needs
-
-same-length-4 : tie.Need-same-length-4 Inv-loop μ-loop
-same-length-4 c = search needs
-
-returns-2 : tie.Need-returns-2 Inv-loop μ-loop
-returns-2 c y = absurd (yes-or-no _ y refl)
+returns-3 : tie.Need-returns-3 Inv-loop μ-loop
+returns-3 c y = absurd (yes-or-no _ y refl)
 
 pub serve-spec : {M : Type 1} → statement M
 serve-spec =
@@ -72,13 +56,11 @@ serve-spec =
     μ-loop
     loop-holds
     fill-requires
-    turn-requires
-    same-length
-    same-length-2
+    answer-read-requires
+    write-requires
     returns
+    returns-2
     sub-left
     loop-less
     loop-again
-    same-length-3
-    same-length-4
-    returns-2)
+    returns-3)

@@ -40,8 +40,8 @@ stop-requires c κs = search needs
 enum-known-d-5 : tie.Need-enum-known-d-5
 enum-known-d-5 c = search needs
 
-keep-requires : tie.Need-keep-requires
-keep-requires c κs = search needs
+save-requires : tie.Need-save-requires
+save-requires c κs = search needs
 
 hand-over-requires : tie.Need-hand-over-requires
 hand-over-requires c κs = search needs
@@ -95,7 +95,7 @@ do-deed-spec =
     enum-told-2
     stop-requires
     enum-known-d-5
-    keep-requires
+    save-requires
     hand-over-requires
     enum-told-3
     give-back-requires

@@ -16,8 +16,8 @@ split-requires c κs = search needs
 read-args-requires : tie.Need-read-args-requires
 read-args-requires c κs = search needs
 
-matched-requires : tie.Need-matched-requires
-matched-requires c κs = search needs
+key-requires : tie.Need-key-requires
+key-requires c κs = search needs
 
 judge-parts-requires : tie.Need-judge-parts-requires
 judge-parts-requires c κs = search needs
@@ -33,6 +33,6 @@ judge-spec =
     of-requires
     split-requires
     read-args-requires
-    matched-requires
+    key-requires
     judge-parts-requires
     returns)

@@ -35,17 +35,23 @@ part-quick-end c = search needs
 quick-requires : tie.Need-quick-requires
 quick-requires c κs = search needs
 
-add-t19 : tie.Need-add-t19
-add-t19 c = search needs
+enum-known-core : tie.Need-enum-known-core
+enum-known-core c = search needs
 
-returns-3 : tie.Need-returns-3
-returns-3 c = next-quick _ _ _ _ _ _ refl (search needs) (c .before .quick .ensures) (search needs) (search needs)
+enum-told : tie.Need-enum-told
+enum-told c = search needs
 
 scan-requires-2 : tie.Need-scan-requires-2
 scan-requires-2 c κs = search needs
 
+returns-3 : tie.Need-returns-3
+returns-3 c = next-slow _ _ _ _ _ (c .before .before .before .before .quick .result) refl (search needs) (c .before .before .before .before .quick .ensures) _ (cc) (c .scan2 .ensures)
+
+add-t14 : tie.Need-add-t14
+add-t14 c = search needs
+
 returns-4 : tie.Need-returns-4
-returns-4 c = next-slow _ _ _ _ _ _ refl (search needs) (c .before .before .before .quick .ensures) _ (search needs) (c .scan2 .ensures)
+returns-4 c = next-quick _ _ _ _ _ (c .before .before .before .quick .result) refl (search needs) (c .before .before .before .quick .ensures) _ (cc) (search needs)
 
 scan-requires-3 : tie.Need-scan-requires-3
 scan-requires-3 c κs = search needs
@@ -67,9 +73,11 @@ next-line-spec =
     part-quick-start
     part-quick-end
     quick-requires
-    add-t19
-    returns-3
+    enum-known-core
+    enum-told
     scan-requires-2
+    returns-3
+    add-t14
     returns-4
     scan-requires-3
     returns-5)

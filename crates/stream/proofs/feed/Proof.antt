@@ -1,25 +1,24 @@
--- Each line answered moves bytes from what is still to be printed to what was printed, whatever bytes follow; the loop ends since each line has its newline, and stops where no answer fits or no line is whole.
-use Prim.Native.Nat.{_-_}
+-- From each line on the feed goes on as from the first; it ends since each line has its newline, and stops where no answer fits or no line is whole.
 use borrow.Author.Needs.{needs}
-use lib.ListN.{length}
-use Rattle.frames.specs.Frames.{machine}
-use mathlib.Core.Path.{_≡_, refl}
-use Rattle.stream.specs.Run.{Feeds, feeds-none, reads-on, feeds-on}
-use Rattle.stream.specs.Fed.{stand, fed, stops, goes-on}
 use Rattle.stream.proofs.feed.Statement.{statement}
 use Rattle.stream.proofs.feed.Tie as tie
+use Prim.Native.Nat.{_-_, _≤_}
+use lib.ListN.{length}
+use Rattle.frames.specs.Frames.{machine}
+use mathlib.Core.Path.{_≡_, refl, _∙_}
+use Rattle.stream.specs.Fed.{stand, fed, stops, goes-on, reads-on, ends-inside}
 
 abbrev Inv-loop : tie.InvT-loop
-Inv-loop chunk out₀ book₀ named₀ owners₀ saved₀ powers₀ turns₀ lists₀ x₀ s₀ at₀ put₀ out book named owners saved powers turns lists x s at put =
-    (fed chunk (stand (machine s named book owners saved powers turns lists) at put out) ≡ fed chunk (stand (machine s₀ named₀ book₀ owners₀ saved₀ powers₀ turns₀ lists₀) at₀ put₀ out₀))
-    × Feeds chunk (machine s₀ named₀ book₀ owners₀ saved₀ powers₀ turns₀ lists₀) at₀ out₀ put₀ (machine s named book owners saved powers turns lists) at out put
+Inv-loop chunk out₀ setup₀ named₀ book₀ owners₀ saved₀ powers₀ turns₀ lists₀ x₀ at₀ put₀ out setup named book owners saved powers turns lists x at put =
+    (fed chunk (stand (machine setup named book owners saved powers turns lists) at put out) ≡ fed chunk (stand (machine setup₀ named₀ book₀ owners₀ saved₀ powers₀ turns₀ lists₀) at₀ put₀ out₀))
+    × (put ≤ length out) × (length out ≡ length out₀)
 
 abbrev μ-loop : tie.MeasureT-loop
-μ-loop chunk out₀ book₀ named₀ owners₀ saved₀ powers₀ turns₀ lists₀ x₀ s₀ at₀ put₀ out book named owners saved powers turns lists x s at put =
+μ-loop chunk out₀ setup₀ named₀ book₀ owners₀ saved₀ powers₀ turns₀ lists₀ x₀ at₀ put₀ out setup named book owners saved powers turns lists x at put =
     length chunk - at
 
 loop-holds : tie.Need-loop-holds Inv-loop μ-loop
-loop-holds c = (refl, search feeds-none)
+loop-holds c = (refl, search needs, refl)
 
 sub-if1 : tie.Need-sub-if1 Inv-loop μ-loop
 sub-if1 c = search needs
@@ -55,9 +54,11 @@ loop-again : tie.Need-loop-again Inv-loop μ-loop
 loop-again c =
     let line = c .before .before .before .before .before .before .before .before .before .before .before .before .before .before .before .before .next-line .ensures in
     let inv = c .before .before .before .before .before .before .before .before .before .before .before .before .before .before .before .before .before .before .before .before .loop .inv in
-    let told = c .before .before .before .answer .ensures in (
+    let told = c .before .before .answer .ensures in
+    let ends = ends-inside _ _ _ _ _ _ _ _ told (inv .1) in (
       goes-on _ _ _ _ _ _ (inv .0) _ _ _ line _ _ (search needs) (search needs) _ _ _ told,
-      feeds-on _ _ _ _ _ line _ _ (search needs) _ _ _ _ _ _ _ (inv .1) (search needs) _ _ _ told,
+      ends .0,
+      ends .1 ∙ inv .2,
     )
 
 same-length-3 : tie.Need-same-length-3 Inv-loop μ-loop

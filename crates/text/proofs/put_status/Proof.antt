@@ -1,4 +1,4 @@
--- `text::put_status` meets its promise: the text is laid whole where it fits, and not at all where it does not.
+-- `text::put_status` meets its promise: the text is put whole where it fits, and not at all where it does not.
 use borrow.Author.Needs.{needs}
 use Rattle.text.specs.Text.{status-put, status-not}
 use Rattle.text.proofs.put_status.Statement.{statement}
@@ -13,35 +13,23 @@ sub-if2 c = search needs
 returns-2 : tie.Need-returns-2
 returns-2 c = status-not _ _ _ (search needs)
 
-signs-requires : tie.Need-signs-requires
-signs-requires c κs = search needs
-
-put-digits-requires : tie.Need-put-digits-requires
-put-digits-requires c κs = search needs
-
-add-put-digits : tie.Need-add-put-digits
-add-put-digits c = search needs
+put-byte-requires : tie.Need-put-byte-requires
+put-byte-requires c κs = search needs
 
 byte-of-requires : tie.Need-byte-of-requires
 byte-of-requires c κs = search needs
 
-put-digits-requires-2 : tie.Need-put-digits-requires-2
-put-digits-requires-2 c κs = search needs
-
-add-put-end : tie.Need-add-put-end
-add-put-end c = search needs
+put-byte-requires-2 : tie.Need-put-byte-requires-2
+put-byte-requires-2 c κs = search needs
 
 put-end-requires : tie.Need-put-end-requires
 put-end-requires c κs = search needs
-
-add-result : tie.Need-add-result
-add-result c = search needs
 
 same-length : tie.Need-same-length
 same-length c = search needs
 
 returns-3 : tie.Need-returns-3
-returns-3 c = status-put _ _ _ _ _ _ _ (c .before .before .before .before .before .before .before .byte-of .ensures) (search needs) (c .before .before .before .before .before .before .before .before .before .before .before .before .put-digits .ensures) (c .before .before .before .before .before .before .put-digits2 .ensures) (c .before .before .put-end .ensures)
+returns-3 c = status-put _ _ _ _ _ _ _ _ _ _ (c .before .before .before .before .before .before .before .byte-of .ensures) (search needs) (c .before .before .before .before .before .before .before .before .before .before .before .put-byte .ensures) (c .before .before .before .before .before .before .put-byte2 .ensures) (c .before .before .put-end .ensures)
 
 pub put-status-spec : {M : Type 1} → statement M
 put-status-spec =
@@ -50,13 +38,9 @@ put-status-spec =
     returns
     sub-if2
     returns-2
-    signs-requires
-    put-digits-requires
-    add-put-digits
+    put-byte-requires
     byte-of-requires
-    put-digits-requires-2
-    add-put-end
+    put-byte-requires-2
     put-end-requires
-    add-result
     same-length
     returns-3)

@@ -1,0 +1,47 @@
+-- Frame 20: what it does to set-up and to the state of the calls, and how it is answered.
+use mathlib.Core.List.{List}
+use Prim.Native.Nat.{ℕ}
+use Rattle.rules.specs.Choice.{pick}
+use Rattle.registers.specs.Registers.{shownOf}
+use Rattle.cores.specs.Power.{isOn}
+use Rattle.cores.specs.Cores.{power, turn}
+use Rattle.judgements.specs.Names.{normal}
+use Rattle.calls.specs.Step.{State, called}
+use Rattle.calls.specs.declared.Site.{Site}
+use Rattle.parsing.specs.declared.Status.{Status}
+use Rattle.setup.specs.Table.{window, cores, over}
+use Rattle.setup.specs.Frames.{coreRuled}
+use Rattle.calling.specs.declared.Reply.{Reply}
+use Rattle.calling.specs.declared.Reply.the-variants.{Told, Called}
+use Rattle.calling.specs.declared.Tried.{Tried}
+use Rattle.calling.specs.declared.Tried.the-variants as Tried
+
+-- what set-up fixes for the calls
+abbrev pub siteOf : List ℕ → Site
+siteOf s = record { window = window s; cores = cores s }
+
+-- a call on a core that is ON; set-up has then ended
+unfoldable pub trying : List ℕ → State → ℕ → List ℕ → (List ℕ × State) × Tried
+trying s w core xs =
+    coreRuled (λ (why : Status). ((s, w), Tried.Refused why)) s core (isOn (power (w .powers) core))
+    ((over s, called w core xs .0), Tried.Called (called w core xs .1))
+
+-- the core, the world that now runs there, and its x0 to x3; where the core went OFF, 255 and Normal's
+unfoldable pub shownOn : ℕ → List ℕ → List ℕ → List ℕ → Reply
+shownOn core r p t =
+    pick (isOn (power p core)) (Called core (turn t core .world) (shownOf r core (turn t core .world))) (Called core 255 (shownOf r core normal))
+
+abbrev pub shownIn : ℕ → State → Reply
+shownIn core w = shownOn core (w .saved) (w .powers) (w .turns)
+
+-- how it is answered
+abbrev pub replied : ℕ → State → Tried → Reply
+replied core w (Tried.Refused why) = Told why
+replied core w (Tried.Called made) = shownIn core w
+
+-- an accepted one
+unfoldable pub performed : List ℕ → State → ℕ → List ℕ → (List ℕ × State) × Reply
+performed s w core xs = ((over s, called w core xs .0), shownIn core (called w core xs .0))
+
+unfoldable pub calling : List ℕ → State → ℕ → List ℕ → (List ℕ × State) × Reply
+calling s w core xs = let o = trying s w core xs in (o .0, replied core (o .0 .1) (o .1))

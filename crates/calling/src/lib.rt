@@ -1,0 +1,116 @@
+// Frame 20: a call on a core, refused as a frame or made, and what is shown after it.
+ghost use mathlib.Core.Path.{_≡_};
+ghost use Rattle.cores.specs.Power.{isOn};
+ghost use Rattle.cores.specs.Cores.{power};
+ghost use Rattle.calls.specs.Step.{state};
+ghost use Rattle.setup.specs.Frames.{coreVerdict};
+ghost use Rattle.calling.specs.Calling.{siteOf, trying, shownOn, calling};
+use calls::Made;
+use calls::Site;
+use cores::Powers;
+use cores::Turns;
+use ledger::Ledger;
+use mapping::Lists;
+use pages::Owners;
+use parsing::Status;
+use registers::Saved;
+use registers::Shown;
+use setup::Setup;
+use setup::Verdict;
+
+// How a frame is answered. The world is 255 where the core is not ON after the call.
+pub enum Reply {
+    Told(Status),
+    Called { core: u64, world: u64, shown: Shown },
+}
+
+// What becomes of the frame of a call: it is refused, or who called and what was answered.
+pub enum Tried {
+    Refused(Status),
+    Called(Made),
+}
+
+// The world shown for a core that is not ON.
+const NO_WORLD: u64 = 255;
+
+// What set-up has fixed for the calls.
+fn site_of(setup: &Setup) -> Site
+    ensures { λ r. ⌜ r ≡ siteOf (now (setup .entry)) ⌝ }
+{
+    let window = setup::window_of(setup);
+    Site {
+        window,
+        cores: setup::cores_of(setup),
+    }
+}
+
+// 20: whether the frame may come, there is such a core, and it is ON.
+fn judge_call(setup: &Setup, core: u64, powers: &Powers) -> Verdict
+    ensures { λ r. ⌜ r ≡ coreVerdict (now (setup .entry)) core (isOn (power (now (powers .entry)) core)) ⌝ }
+{
+    let power = cores::power_of(powers, core);
+    setup::judge_core(setup, core, power.is_on())
+}
+
+// Frame 20: a call on a core that is ON. Set-up has then ended.
+pub fn try_call(
+    setup: &mut Setup,
+    core: u64,
+    x: &[u64; 8],
+    book: &Ledger,
+    owners: &mut Owners,
+    saved: &mut Saved,
+    powers: &mut Powers,
+    turns: &mut Turns,
+    lists: &mut Lists,
+) -> Tried
+    ensures { λ r. ⌜ ((now (setup .exit), state (siteOf (now (setup .entry))) (now (book .entry)) (now (owners .exit)) (now (saved .exit)) (now (powers .exit)) (now (turns .exit)) (now (lists .exit))), r) ≡ trying (now (setup .entry)) (state (siteOf (now (setup .entry))) (now (book .entry)) (now (owners .entry)) (now (saved .entry)) (now (powers .entry)) (now (turns .entry)) (now (lists .entry))) core (now (x .entry)) ⌝ }
+{
+    let Verdict::Refused(why) = judge_call(setup, core, powers) else {
+        let site = site_of(setup);
+        let made = calls::call(site, core, x, book, owners, saved, powers, turns, lists);
+        setup::end(setup);
+        return Tried::Called(made);
+    };
+    Tried::Refused(why)
+}
+
+// What is shown of a core after its call.
+fn show(core: u64, saved: &Saved, powers: &Powers, turns: &Turns) -> Reply
+    ensures { λ r. ⌜ r ≡ shownOn core (now (saved .entry)) (now (powers .entry)) (now (turns .entry)) ⌝ }
+{
+    let power = cores::power_of(powers, core);
+    if power.is_on() {
+        let turn = cores::turn_of(turns, core);
+        let world = turn.world;
+        let shown = registers::show(saved, core, world);
+        return Reply::Called { core, world, shown };
+    }
+    let shown = registers::show(saved, core, judgements::names::NORMAL);
+    Reply::Called {
+        core,
+        world: NO_WORLD,
+        shown,
+    }
+}
+
+// Frame 20, and what is shown after it.
+pub fn make_call(
+    setup: &mut Setup,
+    core: u64,
+    x: &[u64; 8],
+    book: &Ledger,
+    owners: &mut Owners,
+    saved: &mut Saved,
+    powers: &mut Powers,
+    turns: &mut Turns,
+    lists: &mut Lists,
+) -> Reply
+    ensures { λ r. ⌜ ((now (setup .exit), state (siteOf (now (setup .entry))) (now (book .entry)) (now (owners .exit)) (now (saved .exit)) (now (powers .exit)) (now (turns .exit)) (now (lists .exit))), r) ≡ calling (now (setup .entry)) (state (siteOf (now (setup .entry))) (now (book .entry)) (now (owners .entry)) (now (saved .entry)) (now (powers .entry)) (now (turns .entry)) (now (lists .entry))) core (now (x .entry)) ⌝ }
+{
+    let tried = try_call(setup, core, x, book, owners, saved, powers, turns, lists);
+    match tried {
+        Tried::Refused(why) => Reply::Told(why),
+        Tried::Called(_) => show(core, saved, powers, turns),
+    }
+}

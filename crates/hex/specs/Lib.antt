@@ -1,0 +1,5 @@
+pub mod Hex
+pub mod Read
+pub mod Rows
+pub mod Swap
+pub mod Signs

@@ -1,4 +1,0 @@
-pub mod Packed
-pub mod Laying
-pub mod Writing
-pub mod Weighing

@@ -1,0 +1,96 @@
+// Each world's sixteen places, free or held, in one table that the caller lends. Where there is no such world or place, reading
+// gives a free one and writing changes nothing.
+ghost use mathlib.Core.Path.{_≡_};
+ghost use Rattle.ranges.specs.declared.Question.the-variants.{OnRange};
+ghost use Rattle.places.specs.Table.{blank, unmapped, place, stored};
+ghost use Rattle.places.specs.Found.{found};
+use ranges::Mapping;
+use ranges::Question;
+use rules::MOST_MAPPINGS;
+use rules::WORLDS;
+
+// Virtual start, physical start, size and attributes of each place. A place of size 0 is free.
+pub type Lists = [u64; WORLDS as usize * MOST_MAPPINGS as usize * 4];
+
+// What stands at a free place.
+pub fn blank() -> Mapping
+    ensures { λ r. ⌜ r ≡ blank ⌝ }
+{
+    Mapping {
+        virt: 0,
+        phys: 0,
+        size: 0,
+        attr: 0,
+    }
+}
+
+// No world holds a mapping.
+pub fn fresh() -> Lists
+    ensures { λ r. ⌜ r ≡ unmapped ⌝ }
+{
+    [0; WORLDS as usize * MOST_MAPPINGS as usize * 4]
+}
+
+// The mapping at a place of the world, blank where there is no such place.
+pub fn place_of(lists: &Lists, world: u64, i: u64) -> Mapping
+    ensures { λ r. ⌜ r ≡ place (now (lists .entry)) world i ⌝ }
+{
+    if WORLDS <= world {
+        return blank();
+    }
+    if MOST_MAPPINGS <= i {
+        return blank();
+    }
+    let at = ((world * MOST_MAPPINGS + i) * 4) as usize;
+    Mapping {
+        virt: lists[at],
+        phys: lists[at + 1],
+        size: lists[at + 2],
+        attr: lists[at + 3],
+    }
+}
+
+// Puts the mapping at a place of the world.
+pub fn store(lists: &mut Lists, world: u64, i: u64, m: Mapping)
+    ensures { λ r. ⌜ now (lists .exit) ≡ stored (now (lists .entry)) world i m ⌝ }
+{
+    if WORLDS <= world {
+        return;
+    }
+    if MOST_MAPPINGS <= i {
+        return;
+    }
+    let at = ((world * MOST_MAPPINGS + i) * 4) as usize;
+    lists[at] = m.virt;
+    lists[at + 1] = m.phys;
+    lists[at + 2] = m.size;
+    lists[at + 3] = m.attr;
+}
+
+// The lowest place of the world that answers the question, or 16.
+pub fn find(lists: &Lists, world: u64, q: Question) -> u64
+    ensures { λ r. ⌜ r ≡ found (now (lists .entry)) world q ⌝ }
+{
+    let mut i = 0;
+    while i < MOST_MAPPINGS {
+        if place_of(lists, world, i).answers(q) {
+            return i;
+        }
+        i += 1;
+    }
+    i
+}
+
+// The same for a physical range: every transfer that gets so far asks for it, so it has a loop in which the question is known.
+pub fn find_range(lists: &Lists, world: u64, start: u64, size: u64) -> u64
+    ensures { λ r. ⌜ r ≡ found (now (lists .entry)) world (OnRange start size) ⌝ }
+{
+    let mut i = 0;
+    while i < MOST_MAPPINGS {
+        if place_of(lists, world, i).answers(Question::OnRange { start, size }) {
+            return i;
+        }
+        i += 1;
+    }
+    i
+}

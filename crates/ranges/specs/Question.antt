@@ -1,0 +1,72 @@
+-- What the code asks of a place, and what the place answers: the tests of Mapping, asked only of a place that is held.
+use mathlib.Core.Bool.{Bool, true, false}
+use lib.Dec.{eqb}
+use mathlib.Core.Path.{_≡_}
+use Prim.Native.Nat.{ℕ}
+use borrow.Author.Tests.{eq-eqb, ne-eqb}
+use Rattle.rules.specs.Choice.{pick, picked, passed}
+use Rattle.ranges.specs.Ranges.{within, meet}
+use Rattle.ranges.specs.Mapping.{exact, onRange, onPages, holds, clashes}
+use Rattle.ranges.specs.declared.Mapping.{Mapping}
+use Rattle.ranges.specs.declared.Question.{Question}
+use Rattle.ranges.specs.declared.Question.the-variants.{Free, Exact, OnPages, OnRange, Holds, Clashes}
+
+abbrev pub isFree : Mapping → Bool
+isFree m = eqb (m .size) 0
+
+unfoldable pub asksFree : Question → Bool
+asksFree Free = true
+asksFree (Exact v s) = false
+asksFree (OnPages start count) = false
+asksFree (OnRange start size) = false
+asksFree (Holds x) = false
+asksFree (Clashes n) = false
+
+unfoldable pub asks : Question → Mapping → Bool
+asks Free m = false
+asks (Exact v s) m = exact v s m
+asks (OnPages start count) m = onPages start count m
+asks (OnRange start size) m = onRange start size m
+asks (Holds x) m = holds x m
+asks (Clashes n) m = clashes n m
+
+unfoldable pub answers : Question → Mapping → Bool
+answers q m = pick (isFree m) (asksFree q) (asks q m)
+
+-- ---- how the code's arms meet these
+module _ (q : Question) (m : Mapping) (r : Bool) where
+  pub answers-free : m .size ≡ 0 → r ≡ asksFree q → r ≡ answers q m
+  unfolding answers
+  answers-free h e = picked _ _ _ _ (eq-eqb _ _ h) e
+
+  pub answers-held : (m .size ≡ 0 → ⊥) → r ≡ asks q m → r ≡ answers q m
+  unfolding answers
+  answers-held h e = passed _ _ _ _ (ne-eqb _ _ h) e
+
+-- the question that an arm of the code knows
+module _ (q : Question) (m : Mapping) (r : Bool) where
+  pub asks-free : q ≡ Free → r ≡ false → r ≡ asks q m
+  unfolding asks
+  asks-free e h = rw e h
+
+  pub asks-exact : (v s : ℕ) → q ≡ Exact v s → r ≡ exact v s m → r ≡ asks q m
+  unfolding asks
+  asks-exact v s e h = rw e h
+
+  pub asks-pages : (start count : ℕ) → q ≡ OnPages start count → r ≡ onPages start count m → r ≡ asks q m
+  unfolding asks
+  asks-pages start count e h = rw e h
+
+  pub asks-range : (start size : ℕ) → q ≡ OnRange start size → r ≡ meet start size (m .phys) (m .size) → r ≡ asks q m
+  unfolding asks
+  asks-range start size e h = rw e h
+
+  pub asks-holds : (x : ℕ) → q ≡ Holds x → r ≡ within x (m .virt) (m .size) → r ≡ asks q m
+  unfolding asks holds
+  asks-holds x e h = rw e h
+
+  pub asks-clashes : (n : Mapping) → q ≡ Clashes n → r ≡ clashes n m → r ≡ asks q m
+  unfolding asks
+  asks-clashes n e h = rw e h
+
+pub ruleset asking = (asks-free, asks-exact, asks-pages, asks-range, asks-holds, asks-clashes)

@@ -1,0 +1,14 @@
+-- The number is read where the table has it.
+use borrow.Author.Needs.{needs}
+use Rattle.setup.specs.Table.{places}
+use Rattle.setup.proofs.cores_of.Statement.{statement}
+use Rattle.setup.proofs.cores_of.Tie as tie
+
+element-copy-out-result : tie.Need-element-copy-out-result
+element-copy-out-result c = search needs
+
+returns : tie.Need-returns
+returns c = search places
+
+pub cores-of-spec : {M : Type 1} → statement M
+cores-of-spec = tie.close (tie.spec element-copy-out-result returns)

@@ -1,0 +1,38 @@
+-- There is room for every answer, so one feed answers all the complete lines, and what it leaves has no newline.
+use borrow.Author.Needs.{needs}
+use Rattle.waiting.specs.Waiting.{serves}
+use Rattle.waiting.proofs.answer_read.Statement.{statement}
+use Rattle.waiting.proofs.answer_read.Tie as tie
+
+close-requires : tie.Need-close-requires
+close-requires c κs = search needs
+
+sub-feed : tie.Need-sub-feed
+sub-feed c = search needs
+
+part-feed-start : tie.Need-part-feed-start
+part-feed-start c = search needs
+
+part-feed-end : tie.Need-part-feed-end
+part-feed-end c = search needs
+
+feed-requires : tie.Need-feed-requires
+feed-requires c κs = search needs
+
+to-front-requires : tie.Need-to-front-requires
+to-front-requires c κs = search needs
+
+returns : tie.Need-returns
+returns c = search serves
+
+pub answer-read-spec : {M : Type 1} → statement M
+answer-read-spec =
+    tie.close
+    (tie.spec
+    close-requires
+    sub-feed
+    part-feed-start
+    part-feed-end
+    feed-requires
+    to-front-requires
+    returns)
