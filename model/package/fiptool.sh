@@ -9,7 +9,7 @@ if [ $# -ne 2 ]; then
     exit 2
 fi
 fip=$(realpath "$1")
-packing_run=$(realpath "$2")
+fip_sample_run=$(realpath "$2")
 folder=$(mktemp -d)
 packages=0 lines=0 images=0 refusals=0 finished=no
 
@@ -226,10 +226,10 @@ for file in "${others[@]}"; do
 done
 
 echo "== the package of our own writer"
-"$packing_run" >"$folder/written" || fail "packing_run"
-fiptool info "$folder/written" || fail "fiptool info on the package that packing_run wrote"
+"$fip_sample_run" >"$folder/written" || fail "fip_sample_run"
+fiptool info "$folder/written" || fail "fiptool info on the package that fip_sample_run wrote"
 count=$(fiptool info "$folder/written" | wc -l)
-[ "$count" -gt 0 ] || fail "packing_run wrote a package without images"
+[ "$count" -gt 0 ] || fail "fip_sample_run wrote a package without images"
 mkdir "$folder/unpacked"
 fiptool unpack --out "$folder/unpacked" "$folder/written" || fail "fiptool unpack"
 [ "$(find "$folder/unpacked" -type f | wc -l)" -eq "$count" ] || fail "fiptool unpacked other than $count images"
@@ -239,6 +239,6 @@ wrote() { # file text
 wrote tb-fw 'pump 7 starts at 06:00\n'
 wrote nt-fw ''
 wrote 70756D70-2D37-2D68-6F75-727300000001 'running hours 1204, bearings at 900\n'
-examine "the package that packing_run wrote" "$folder/written" "$folder/unpacked" "$count"
+examine "the package that fip_sample_run wrote" "$folder/written" "$folder/unpacked" "$count"
 
 finished=yes
