@@ -60,7 +60,7 @@ fn main() {
     let words = os::arg_count();
     let mut word = [0u8; 36];
     let w = os::arg(2, &mut word);
-    let asked = fip_text::identifier(&word[..w]);
+    let asked = fip_identifiers::identifier(&word[..w]);
     let is_list = words == 2;
     let is_image = words == 3 && asked.given;
     if !is_list && !is_image {

@@ -1,5 +1,4 @@
 pub mod Pieces
-pub mod Identifiers
 pub mod Names
 pub mod Rows
 pub mod Decimal

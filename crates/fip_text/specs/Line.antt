@@ -10,7 +10,7 @@ use Rattle.io.specs.Digits.{digits, Fewest}
 use Rattle.rules.specs.Choice.{pick}
 use Rattle.rules.specs.Laid.{laid, then, laid-append, length-laid}
 use Rattle.fip_entries.specs.Entries.{entry, offset, size, flags}
-use Rattle.fip_text.specs.Identifiers.{idText, length-id}
+use Rattle.fip_identifiers.specs.Identifiers.{idText, length-id}
 use Rattle.fip_text.specs.Names.{nameText}
 use Rattle.fip_text.specs.Decimal.{decimalText, decimal-is}
 use Rattle.fip_text.specs.Pieces.{Stands, written, stands-then}
@@ -59,11 +59,10 @@ module _ (t : List ℕ) (k : ℕ) where
       rw (← e, ← f, ← g) (stands-then o o₁ o₃ _ _ at i r p (stands-then o₁ o₂ o₃ _ _ i j r q s))
 
   pub line-put :
-      (o o₁ o₂ o₃ o₄ id : List ℕ) (at from a b : ℕ) → from ≡ entry k → id ≡ idText t from → o₁ ≡ laid o at id → Stands o₁ (at + 36) (numbersText t k) a o₂ → Stands o₂ a (nameText id) b o₃ →
+      (o o₁ o₂ o₃ o₄ id : List ℕ) (at a b : ℕ) → id ≡ idText t (entry k) → o₁ ≡ laid o at id → Stands o₁ (at + 36) (numbersText t k) a o₂ → Stands o₂ a (nameText id) b o₃ →
       o₄ ≡ laid o₃ b (10 ∷ []) → Stands o at (lineText t k) (b + 1) o₄
   unfolding lineText
-  line-put o o₁ o₂ o₃ o₄ id at from a b g d p q s f =
-      let e : id ≡ idText t (entry k) = d ∙ ap (idText t) g in
+  line-put o o₁ o₂ o₃ o₄ id at a b e p q s f =
       let l = length-id t (entry k) in
       let first : Stands o at (idText t (entry k)) (at + 36) o₁ = record { behind = omega arith; bytes = p ∙ ap (laid o at) e } in
       let last : Stands o₃ b (10 ∷ []) (b + 1) o₄ = record { behind = omega arith; bytes = f } in

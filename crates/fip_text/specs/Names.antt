@@ -6,7 +6,7 @@ use Prim.Native.String.{String}
 use Rattle.rules.specs.Choice.{pick}
 use Rattle.rules.specs.Search.{all}
 use Rattle.hex.specs.Signs.{signs}
-use Rattle.fip_text.specs.Identifiers.{agree}
+use Rattle.fip_identifiers.specs.Identifiers.{agree}
 
 -- identifiers and their names
 unfoldable pub names : List (String × String)

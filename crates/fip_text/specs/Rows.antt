@@ -13,7 +13,7 @@ use Rattle.rules.specs.Choice.{pick, pick-yes, pick-no, by}
 use Rattle.rules.specs.Search.{all, all-at, first}
 use Rattle.rules.specs.Laid.{laid}
 use Rattle.hex.specs.Signs.{signs}
-use Rattle.fip_text.specs.Identifiers.{agree}
+use Rattle.fip_identifiers.specs.Identifiers.{agree}
 use Rattle.fip_text.specs.Names.{names, isText, nameAmong, nameText}
 use Rattle.fip_text.specs.Pieces.{Stands}
 

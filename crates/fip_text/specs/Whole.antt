@@ -12,7 +12,7 @@ use Rattle.fip_entries.specs.Numbers.{two, four, eight}
 use Rattle.fip_entries.specs.Entries.{entry, offset, size, flags}
 use Rattle.fip_read.specs.Reading.{judged, behind, entries, tabled, untabled}
 use Rattle.fip_read.specs.Accepted.{accepted}
-use Rattle.fip_text.specs.Identifiers.{run, idText}
+use Rattle.fip_identifiers.specs.Identifiers.{run, idText}
 use Rattle.fip_text.specs.Line.{numbersText, lineText, linesText, listed, listText}
 
 -- ---- what stands in the first m bytes is read there as in all of them

@@ -1,5 +1,4 @@
-// The listing of a firmware package, a line for each image, and identifiers in text.
-mod identifiers;
+// The listing of a firmware package, a line for each image.
 mod names;
 mod pieces;
 
@@ -9,8 +8,6 @@ ghost use lib.ListN.{length};
 ghost use Rattle.io.specs.Counts.{Counts};
 ghost use Rattle.fip_text.specs.Pieces.{Stands, written};
 ghost use Rattle.fip_text.specs.Line.{numberText, numbersText, lineText, linesText, listed, listText};
-pub use identifiers::Asked;
-pub use identifiers::identifier;
 
 // The most bytes of a list: a line has at most 152, an identifier, three numbers, a name and a newline.
 pub const LIST: usize = 9728;
@@ -50,9 +47,9 @@ fn put_line(out: &mut [u8], at: usize, t: &[u8], k: u32) -> usize
     requires { ⌜ at + 152 ≤ length (now out) ⌝ }
     ensures { λ r. ⌜ Stands (now (out .entry)) at (lineText (now (t .entry)) k) r (now (out .exit)) × (r ≤ at + 152) ⌝ }
 {
-    let id = identifiers::text_of(t, fip_entries::entry(k));
+    let id = fip_identifiers::text_of(t, k);
     pieces::put_text(out, at, &id);
-    let a = put_numbers(out, at + identifiers::TEXT, t, k);
+    let a = put_numbers(out, at + fip_identifiers::TEXT, t, k);
     let b = names::put_name(out, a, &id);
     pieces::put_byte(out, b, b'\n');
     b + 1

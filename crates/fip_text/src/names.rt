@@ -5,7 +5,6 @@ ghost use lib.ListN.{length};
 ghost use Rattle.fip_text.specs.Names.{nameText};
 ghost use Rattle.fip_text.specs.Rows.{row, isRow, rowOf, endOf};
 ghost use Rattle.fip_text.specs.Pieces.{Stands};
-use crate::identifiers;
 use crate::pieces;
 
 // A row's size, and how many rows there are.
@@ -65,7 +64,7 @@ fn is_row(id: &[u8], k: usize) -> bool
     ensures { λ r. ⌜ r ≡ isRow (now (id .entry)) k ⌝ }
 {
     let known = row(k);
-    identifiers::is_alike(&known, id, identifiers::TEXT)
+    fip_identifiers::is_alike(&known, id, fip_identifiers::TEXT)
 }
 
 // The row of an identifier, or the number of rows.
@@ -89,8 +88,8 @@ fn end_of(known: &[u8]) -> usize
     requires { ⌜ length (now known) ≡ 88 ⌝ }
     ensures { λ r. ⌜ (r ≡ endOf (now (known .entry))) × (36 ≤ r) × (r ≤ 88) ⌝ }
 {
-    let mut i: usize = identifiers::TEXT;
-    let mut unseen = ROW - identifiers::TEXT;
+    let mut i: usize = fip_identifiers::TEXT;
+    let mut unseen = ROW - fip_identifiers::TEXT;
     while 0 < unseen {
         if known[i] == b'.' {
             return i;
@@ -110,8 +109,8 @@ pub(crate) fn put_name(out: &mut [u8], at: usize, id: &[u8]) -> usize
     if k < ROWS {
         let known = row(k);
         let e = end_of(&known);
-        pieces::put_text(out, at, &known[identifiers::TEXT..e]);
-        return at + (e - identifiers::TEXT);
+        pieces::put_text(out, at, &known[fip_identifiers::TEXT..e]);
+        return at + (e - fip_identifiers::TEXT);
     }
     at
 }

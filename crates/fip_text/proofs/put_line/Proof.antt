@@ -4,9 +4,6 @@ use borrow.Author.Needs.{needs}
 use Rattle.fip_text.proofs.put_line.Statement.{statement}
 use Rattle.fip_text.proofs.put_line.Tie as tie
 
-entry-requires : tie.Need-entry-requires
-entry-requires c κs = search needs
-
 text-of-requires : tie.Need-text-of-requires
 text-of-requires c κs = search needs
 
@@ -44,7 +41,6 @@ pub put-line-spec : {M : Type 1} → statement M
 put-line-spec =
     tie.close
     (tie.spec
-    entry-requires
     text-of-requires
     slice-aggregate-put-text
     put-text-requires

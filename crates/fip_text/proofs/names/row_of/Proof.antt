@@ -3,6 +3,7 @@ use mathlib.Core.Path.{_≡_}
 use Prim.Native.Nat.{_+_}
 use Rattle.rules.specs.Search.{first, first-goes, first-stops, first-ends}
 use Rattle.fip_text.specs.Rows.{isRow, rowOf}
+use Rattle.rules.specs.Tests.{said}
 use borrow.Author.Needs.{needs}
 use Rattle.fip_text.proofs.names.row_of.Statement.{statement}
 use Rattle.fip_text.proofs.names.row_of.Tie as tie
@@ -21,7 +22,7 @@ is-row-requires : tie.Need-is-row-requires Inv-loop μ-loop
 is-row-requires c κs = search needs
 
 returns : tie.Need-returns Inv-loop μ-loop
-returns c = first-stops _ _ _ _ (c .before .before .before .loop .inv .0) (search needs) (cc)
+returns c = first-stops _ _ _ _ (c .before .before .before .loop .inv .0) (search needs) (search said)
 
 add-k : tie.Need-add-k Inv-loop μ-loop
 add-k c = search needs
@@ -33,7 +34,7 @@ loop-less : tie.Need-loop-less Inv-loop μ-loop
 loop-less c = search needs
 
 loop-again : tie.Need-loop-again Inv-loop μ-loop
-loop-again c = (first-goes _ _ _ _ (c .before .before .before .loop .inv .0) (search needs) (cc), search needs)
+loop-again c = (first-goes _ _ _ _ (c .before .before .before .loop .inv .0) (search needs) (search said), search needs)
 
 returns-2 : tie.Need-returns-2 Inv-loop μ-loop
 returns-2 c = search (first-ends, needs)
