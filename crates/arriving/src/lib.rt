@@ -2,7 +2,7 @@
 ghost use mathlib.Core.Path.{_≡_};
 ghost use Rattle.cores.specs.Power.{isPending};
 ghost use Rattle.cores.specs.Cores.{power};
-ghost use Rattle.calls.specs.Step.{seat};
+ghost use Rattle.calls.specs.Step.{coreTables};
 ghost use Rattle.setup.specs.Frames.{coreVerdict};
 ghost use Rattle.arriving.specs.Arriving.{arriving};
 use cores::Powers;
@@ -21,14 +21,14 @@ fn judge_arrival(setup: &Setup, core: u64, powers: &Powers) -> Verdict
 }
 
 // Frame 21: a pending core arrives.
-pub fn bring(
+pub fn make_arrival(
     setup: &Setup,
     core: u64,
     saved: &mut Saved,
     powers: &mut Powers,
     turns: &mut Turns,
 ) -> Status
-    ensures { λ r. ⌜ (seat (now (saved .exit)) (now (powers .exit)) (now (turns .exit)), r) ≡ arriving (now (setup .entry)) (seat (now (saved .entry)) (now (powers .entry)) (now (turns .entry))) core ⌝ }
+    ensures { λ r. ⌜ (coreTables (now (saved .exit)) (now (powers .exit)) (now (turns .exit)), r) ≡ arriving (now (setup .entry)) (coreTables (now (saved .entry)) (now (powers .entry)) (now (turns .entry))) core ⌝ }
 {
     let Verdict::Refused(why) = judge_arrival(setup, core, powers) else {
         calls::arrive(core, saved, powers, turns);

@@ -5,13 +5,13 @@ ghost use Rattle.pages.specs.Window.{pageOf};
 ghost use Rattle.cores.specs.Cores.{onCount};
 ghost use Rattle.mapping.specs.Mapping.{mapVerdict, leadOf};
 ghost use Rattle.judgements.specs.Names.{normal};
-ghost use Rattle.judgements.specs.Judge.{granted, viewed, wanted, owning, mapping as mappingBy, unmapping, leading, board};
+ghost use Rattle.judgements.specs.Judge.{granted, handlerSight, wanted, owning, mapping as mappingBy, unmapping, leading, board};
 use cores::Powers;
 use judgements::Answer;
 use judgements::Args;
+use judgements::Caller;
 use judgements::Deed;
 use judgements::Judged;
-use judgements::Seen;
 use judgements::grant;
 use judgements::names;
 use judgements::refuse;
@@ -26,22 +26,22 @@ use pages::Place;
 use rules::Reason;
 
 // Whether an address lies in a page of the caller's.
-fn own_page(v: Seen, owners: &Owners, a: Args) -> Judged
-    ensures { λ r. ⌜ r ≡ owning (now (owners .entry)) (pageOf (v .window) (a .x1)) (v .caller) ⌝ }
+fn own_page(v: Caller, owners: &Owners, a: Args) -> Judged
+    ensures { λ r. ⌜ r ≡ owning (now (owners .entry)) (pageOf (v .window) (a .x1)) (v .world) ⌝ }
 {
     let w = v.window;
     let Place::Page(page) = w.page_of(a.x1) else {
         return refuse(Reason::Invalid);
     };
     grant(
-        Answer::Owns(pages::owner_of(owners, page) == v.caller),
+        Answer::Owns(pages::owner_of(owners, page) == v.world),
         Deed::Nothing,
     )
 }
 
 // Maps physical x1 at virtual x2, size x3, attributes x4.
-fn map_pages(v: Seen, owners: &Owners, lists: &Lists, a: Args) -> Judged
-    ensures { λ r. ⌜ r ≡ mappingBy (mapVerdict (held (now (lists .entry)) (v .caller)) (now (owners .entry)) (v .window) (v .caller) (wanted a)) (wanted a) ⌝ }
+fn map_pages(v: Caller, owners: &Owners, lists: &Lists, a: Args) -> Judged
+    ensures { λ r. ⌜ r ≡ mappingBy (mapVerdict (held (now (lists .entry)) (v .world)) (now (owners .entry)) (v .window) (v .world) (wanted a)) (wanted a) ⌝ }
 {
     let m = Mapping {
         virt: a.x2,
@@ -50,7 +50,7 @@ fn map_pages(v: Seen, owners: &Owners, lists: &Lists, a: Args) -> Judged
         attr: a.x4,
     };
     let w = v.window;
-    match mapping::judge_map(lists, owners, w, v.caller, m) {
+    match mapping::judge_map(lists, owners, w, v.world, m) {
         Verdict::Granted => grant(Answer::Done, Deed::Map(m)),
         Verdict::Nothing => grant(Answer::Done, Deed::Nothing),
         Verdict::No(r) => refuse(r),
@@ -58,10 +58,10 @@ fn map_pages(v: Seen, owners: &Owners, lists: &Lists, a: Args) -> Judged
 }
 
 // Unmaps what the caller holds with exactly this start and size.
-fn unmap_pages(v: Seen, lists: &Lists, a: Args) -> Judged
-    ensures { λ r. ⌜ r ≡ unmapping (held (now (lists .entry)) (v .caller)) a ⌝ }
+fn unmap_pages(v: Caller, lists: &Lists, a: Args) -> Judged
+    ensures { λ r. ⌜ r ≡ unmapping (held (now (lists .entry)) (v .world)) a ⌝ }
 {
-    if !mapping::has(lists, v.caller, a.x1, a.x2) {
+    if !mapping::has(lists, v.world, a.x1, a.x2) {
         return refuse(Reason::NoMapping);
     }
     grant(
@@ -74,10 +74,10 @@ fn unmap_pages(v: Seen, lists: &Lists, a: Args) -> Judged
 }
 
 // Where an address of the caller leads.
-fn where_leads(v: Seen, lists: &Lists, a: Args) -> Judged
-    ensures { λ r. ⌜ r ≡ leading (leadOf (held (now (lists .entry)) (v .caller)) (a .x1)) ⌝ }
+fn where_leads(v: Caller, lists: &Lists, a: Args) -> Judged
+    ensures { λ r. ⌜ r ≡ leading (leadOf (held (now (lists .entry)) (v .world)) (a .x1)) ⌝ }
 {
-    match mapping::lead_of(lists, v.caller, a.x1) {
+    match mapping::lead_of(lists, v.world, a.x1) {
         Lead::To { phys, attr } => grant(Answer::Leads { phys, attr }, Deed::Nothing),
         Lead::Nowhere => refuse(Reason::Nowhere),
     }
@@ -92,14 +92,14 @@ fn count_on(powers: &Powers) -> Judged
 
 // A call that reaches handler 1.
 pub fn board_call(
-    v: Seen,
+    v: Caller,
     powers: &Powers,
     owners: &Owners,
     lists: &Lists,
     a: Args,
     key: u32,
 ) -> Judged
-    ensures { λ r. ⌜ r ≡ board (viewed v (now (powers .entry)) (now (owners .entry)) (held (now (lists .entry)) (v .caller)) (held (now (lists .entry)) normal)) a key ⌝ }
+    ensures { λ r. ⌜ r ≡ board (handlerSight v (now (powers .entry)) (now (owners .entry)) (held (now (lists .entry)) (v .world)) (held (now (lists .entry)) normal)) a key ⌝ }
 {
     match key {
         names::TAKE_PAGES => take_pages(v, owners, lists, a),

@@ -13,23 +13,23 @@ use Rattle.registers.specs.Registers.{Whole, saved, saving, saving-at, saving-p
 use Rattle.cores.specs.Power.{turnOf, put, on, isPending, arrived-pending, handed, finished}
 use Rattle.cores.specs.Cores.{WholePowers, WholeTurns, power, withPower, turn, withTurn, power-same, turn-same}
 use Rattle.rules.specs.Sizes.{lastWorld}
-use Rattle.pages.specs.Owners.{WholeOwners, owner}
+use Rattle.pages.specs.Owners.{WholeOwners, owner, given-outside}
 use Rattle.ranges.specs.declared.Mapping.{Mapping}
-use Rattle.transfers.specs.Kept.{Movable, move-granted, carried-from, carried-inside, carried-outside}
+use Rattle.transfers.specs.Granted.{Movable, move-granted, moved-from, moved-to}
 use Rattle.mapping.specs.Lists.{WholeLists}
 use Rattle.judgements.specs.Names.{secure, normal, realm}
-use Rattle.judgements.specs.Judge.{View, calledBy}
+use Rattle.judgements.specs.Judge.{HandlerSight, calledBy}
 use Rattle.judgements.specs.Grounds.{Takes, Between, Moves, Grounds, grounded}
 use Rattle.judgements.specs.Grounds.Between.{toCaller, toNormal}
 use Rattle.judgements.specs.declared.Answer.{Answer}
 use Rattle.judgements.specs.declared.Answer.the-variants.{No}
 use Rattle.judgements.specs.declared.Deed.{Deed}
-use Rattle.judgements.specs.declared.Deed.the-variants.{Nothing, Move, Map, Unmap, Start, Stop, HandOver, Finish}
+use Rattle.judgements.specs.declared.Deed.the-variants.{Nothing, Move, Map, Unmap, Start, GoOff, HandOver, Finish}
 use Rattle.rules.specs.Reasons.{minus}
 use Rattle.answers.specs.Answers.{negative, written}
 use Rattle.answers.specs.Laws.{answered-whole, answered-other, answered-listed, answered-unlisted, answered-past}
 use Rattle.deeds.specs.Deeds.{returned, finishNumbers}
-use Rattle.calls.specs.Step.{State, state, sight, callerOf, judgedIn, carriedIn, withAnswer, applied, called, Seat, startNumbers, arrivedIn, arrives}
+use Rattle.calls.specs.Step.{State, state, sight, callerOf, judgedIn, carriedIn, withAnswer, applied, called, CoreTables, startNumbers, arrivedIn, arrives}
 
 -- ---- names for a step
 -- what is done for a call
@@ -73,35 +73,35 @@ refused s core xs r e = stepped-by s core xs Nothing (grounded (sight s core) xs
 -- the world, besides the caller's, whose numbers a deed writes
 abbrev pub Receives : Deed → ℕ → Type 0
 Receives Nothing u = ⊥
-Receives (Move start count to) u = ⊥
+Receives (Move first count to) u = ⊥
 Receives (Map m) u = ⊥
 Receives (Unmap virt size) u = ⊥
 Receives (Start c a x) u = ⊥
-Receives Stop u = ⊥
+Receives GoOff u = ⊥
 Receives (HandOver to) u = to ≡ u
 Receives Finish u = normal ≡ u
 
 deed-spares : (d : Deed) (s : State) (core caller : ℕ) (xs : List ℕ) (c u j : ℕ) → (core ≡ c → Receives d u → ⊥)
     → saved (carriedIn d s core caller xs .saved) c u j ≡ saved (s .saved) c u j
 deed-spares Nothing s core caller xs c u j n = refl
-deed-spares (Move start count to) s core caller xs c u j n = refl
+deed-spares (Move first count to) s core caller xs c u j n = refl
 deed-spares (Map m) s core caller xs c u j n = refl
 deed-spares (Unmap virt size) s core caller xs c u j n = refl
 deed-spares (Start k a x) s core caller xs c u j n = refl
-deed-spares Stop s core caller xs c u j n = refl
+deed-spares GoOff s core caller xs c u j n = refl
 deed-spares (HandOver to) s core caller xs c u j n = saving-other (s .saved) core to xs c u j n
 deed-spares Finish s core caller xs c u j n = saving-other (s .saved) core normal (finishNumbers caller xs) c u j n
 
 -- no deed that has its grounds writes the caller's numbers
-never-own : (v : View) (d : Deed) → Grounds v d → Receives d (v .seen .caller) → ⊥
+never-own : (v : HandlerSight) (d : Deed) → Grounds v d → Receives d (v .caller .world) → ⊥
 never-own v Nothing g r = r
-never-own v (Move start count to) g r = r
+never-own v (Move first count to) g r = r
 never-own v (Map m) g r = r
 never-own v (Unmap virt size) g r = r
 never-own v (Start c a x) g r = r
-never-own v Stop g r = r
+never-own v GoOff g r = r
 never-own v (HandOver to) g r = ⊎-elim (λ (e : to ≡ secure). omega (arith, g .0)) (λ (e : to ≡ realm). omega (arith, g .0)) (g .1)
-never-own v Finish g r = ⊎-elim (λ (e : v .seen .caller ≡ secure). omega arith) (λ (e : v .seen .caller ≡ realm). omega arith) (g .0)
+never-own v Finish g r = ⊎-elim (λ (e : v .caller .world ≡ secure). omega arith) (λ (e : v .caller .world ≡ realm). omega arith) (g .0)
 
 module _ (s : State) (core : ℕ) (xs : List ℕ) where
   saved-is : after s core xs .saved ≡ carriedIn (deedIn s core xs) (answeredAt s core xs) core (callerOf s core) xs .saved
@@ -119,7 +119,7 @@ module _ (s : State) (core : ℕ) (xs : List ℕ) where
   own-numbers : (j : ℕ) → saved (after s core xs .saved) core (callerOf s core) j ≡ saved (answeredAt s core xs .saved) core (callerOf s core) j
   own-numbers j =
       rw saved-is (deed-spares (deedIn s core xs) (answeredAt s core xs) core (callerOf s core) xs core (callerOf s core) j
-      (λ e. never-own (sight s core .view) (deedIn s core xs) (grounded (sight s core) xs .stands)))
+      (λ e. never-own (sight s core .inner) (deedIn s core xs) (grounded (sight s core) xs .stands)))
 
   -- What the answer lists stands in the caller's x0 and on.
   pub own-results : (j : ℕ) → Whole (s .saved) → core < 8 → callerOf s core < 4 → j < length (resultsIn s core xs)
@@ -176,28 +176,28 @@ module _ (s : State) (core : ℕ) (xs : List ℕ) where
 -- the deeds that change owners
 abbrev pub Carries : Deed → Type 0
 Carries Nothing = ⊥
-Carries (Move start count to) = Unit {0}
+Carries (Move first count to) = Unit {0}
 Carries (Map m) = ⊥
 Carries (Unmap virt size) = ⊥
 Carries (Start k a x) = ⊥
-Carries Stop = ⊥
+Carries GoOff = ⊥
 Carries (HandOver to) = ⊥
 Carries Finish = ⊥
 
 owners-by : (d : Deed) (s : State) (core caller : ℕ) (xs : List ℕ) → (Carries d → ⊥) → carriedIn d s core caller xs .owners ≡ s .owners
 owners-by Nothing s core caller xs n = refl
-owners-by (Move start count to) s core caller xs n = absurd (n tt)
+owners-by (Move first count to) s core caller xs n = absurd (n tt)
 owners-by (Map m) s core caller xs n = refl
 owners-by (Unmap virt size) s core caller xs n = refl
 owners-by (Start k a x) s core caller xs n = refl
-owners-by Stop s core caller xs n = refl
+owners-by GoOff s core caller xs n = refl
 owners-by (HandOver to) s core caller xs n = refl
 owners-by Finish s core caller xs n = refl
 
 -- giver and taker are worlds
-between-worlds : {v : View} {from to : ℕ} {list : List Mapping} → Between v from to list → Takes (v .seen .caller) → (from ≤ lastWorld) × (to ≤ lastWorld)
-between-worlds {v} toCaller t = (omega arith, ⊎-elim (λ (y : v .seen .caller ≡ secure). omega arith) (λ (y : v .seen .caller ≡ realm). omega arith) t)
-between-worlds {v} toNormal t = (⊎-elim (λ (y : v .seen .caller ≡ secure). omega arith) (λ (y : v .seen .caller ≡ realm). omega arith) t, omega arith)
+between-worlds : {v : HandlerSight} {from to : ℕ} {list : List Mapping} → Between v from to list → Takes (v .caller .world) → (from ≤ lastWorld) × (to ≤ lastWorld)
+between-worlds {v} toCaller t = (omega arith, ⊎-elim (λ (y : v .caller .world ≡ secure). omega arith) (λ (y : v .caller .world ≡ realm). omega arith) t)
+between-worlds {v} toNormal t = (⊎-elim (λ (y : v .caller .world ≡ secure). omega arith) (λ (y : v .caller .world ≡ realm). omega arith) t, omega arith)
 
 module _ (s : State) (core : ℕ) (xs : List ℕ) where
   -- After a hand-over the receiver runs, with the hand-over open.
@@ -215,32 +215,32 @@ module _ (s : State) (core : ℕ) (xs : List ℕ) where
   unfolding called applied
   owners-spared n = owners-by (deedIn s core xs) (answeredAt s core xs) core (callerOf s core) xs n
 
-  module _ (start count to : ℕ) (e : deedIn s core xs ≡ Move start count to) where
+  module _ (first count to : ℕ) (e : deedIn s core xs ≡ Move first count to) where
     -- A transfer is granted between the caller and Normal, of pages that are the giver's and that the giver has not mapped.
-    pub moves : Moves (sight s core .view) start count to
+    pub moves : Moves (sight s core .inner) first count to
     moves = rw e at (grounded (sight s core) xs .stands)
 
-    pub movable : Movable (s .site .window) (s .owners) (moves .list) (moves .from) start count
-    movable = move-granted (s .site .window) (s .owners) (moves .list) (moves .from) start count (moves .verdict)
+    movable : Movable (s .site .window) (s .owners) (moves .list) (moves .from) (moves .start) count first
+    movable = move-granted (s .site .window) (s .owners) (moves .list) (moves .from) (moves .start) count first (moves .verdict)
 
     -- Each page of the run was the giver's and is the taker's.
-    pub moved-inside : (page : ℕ) → WholeOwners (s .owners) → movable .first ≤ page → page < movable .first + count
+    pub moved-inside : (page : ℕ) → WholeOwners (s .owners) → first ≤ page → page < first + count
         → (owner (s .owners) page ≡ moves .from) × (owner (after s core xs .owners) page ≡ to)
     unfolding called applied
     moved-inside page w h l = (
-      carried-from (s .site .window) (s .owners) start count to (moves .list) (moves .from) movable page h l,
-      rw e (carried-inside (s .site .window) (s .owners) start count to (moves .list) (moves .from) movable page w (between-worlds (moves .between) (moves .caller) .1) h l),
+      moved-from (s .site .window) (s .owners) (moves .list) (moves .from) (moves .start) count first movable page h l,
+      rw e (moved-to (s .site .window) (s .owners) (moves .list) (moves .from) (moves .start) count first movable page to w (between-worlds (moves .between) (moves .caller) .1) h l),
     )
 
     -- Every other page keeps its owner.
-    pub moved-outside : (page : ℕ) → (movable .first ≤ page → page < movable .first + count → ⊥) → owner (after s core xs .owners) page ≡ owner (s .owners) page
+    pub moved-outside : (page : ℕ) → (first ≤ page → page < first + count → ⊥) → owner (after s core xs .owners) page ≡ owner (s .owners) page
     unfolding called applied
-    moved-outside page n = rw e (carried-outside (s .site .window) (s .owners) start count to (moves .list) (moves .from) movable page n)
+    moved-outside page n = rw e (given-outside (s .owners) first count to page n)
 
 -- ---- an arrival
 -- the state with what an arrival leaves of the tables that it touches
-abbrev seated : State → Seat × Bool → State × Bool
-seated s a = (state (s .site) (s .ledger) (s .owners) (a .0 .saved) (a .0 .powers) (a .0 .turns) (s .lists), a .1)
+abbrev withCores : State → CoreTables × Bool → State × Bool
+withCores s a = (state (s .site) (s .ledger) (s .owners) (a .0 .saved) (a .0 .powers) (a .0 .turns) (s .lists), a .1)
 
 -- the state once a pending core has come: ON, in Normal, with the numbers of its start
 abbrev comeIn : State → ℕ → State
@@ -255,12 +255,12 @@ module _ (s : State) (core : ℕ) where
   -- Where the core is not pending, nothing changes.
   arrival-away : isPending (power (s .powers) core) ≡ false → arrives s core ≡ (s, false)
   unfolding arrivedIn
-  arrival-away n = ap (seated s) (pick-no _ _ _ n)
+  arrival-away n = ap (withCores s) (pick-no _ _ _ n)
 
   -- A pending core comes.
   arrival-comes : isPending (power (s .powers) core) ≡ true → arrives s core ≡ (comeIn s core, true)
   unfolding arrivedIn
-  arrival-comes y = ap (seated s) (pick-yes _ _ _ y) ∙ rw (arrived-pending (power (s .powers) core) y)
+  arrival-comes y = ap (withCores s) (pick-yes _ _ _ y) ∙ rw (arrived-pending (power (s .powers) core) y)
 
   -- what holds once the core has come holds after the arrival of a pending one
   arrived-by : (P : State → Type 0) → isPending (power (s .powers) core) ≡ true → P (comeIn s core) → P (afterArrival s core)

@@ -13,28 +13,28 @@ use Rattle.cores.specs.declared.Turn.{Turn}
 use Rattle.cores.specs.declared.Arriving.{Arriving}
 use Rattle.mapping.specs.Lists.{held}
 use Rattle.judgements.specs.Names.{normal}
-use Rattle.judgements.specs.Judge.{viewed, sighted, judged}
+use Rattle.judgements.specs.Judge.{handlerSight, sighted, judged}
 use Rattle.judgements.specs.declared.Judged.{Judged}
-use Rattle.judgements.specs.declared.Seen.{Seen}
+use Rattle.judgements.specs.declared.Caller.{Caller}
 use Rattle.answers.specs.Answers.{answeredIn}
 use Rattle.deeds.specs.Deeds.{Tables, tables, carriedOut}
-use Rattle.calls.specs.Step.{state, seenBy, withTables, applied, called, seat, startNumbers, arrivedIn}
+use Rattle.calls.specs.Step.{state, callerOn, withTables, applied, called, coreTables, startNumbers, arrivedIn}
 use Rattle.calls.specs.declared.Site.{Site}
 
 -- ---- the whole call, from what each part ensures
-pub stepped : (w : Site) (l o r p t m xs : List ℕ) (core : ℕ) (v : Seen) (j : Judged) (q o′ r′ p′ t′ m′ : List ℕ)
-    → v ≡ seenBy w t core
-    → j ≡ judged (sighted l (viewed v p o (held m (v .caller)) (held m normal))) xs
-    → q ≡ answeredIn r core (v .caller) xs (j .answer)
-    → tables o′ r′ p′ t′ m′ ≡ carriedOut (j .deed) (w .window) core (v .caller) xs (tables o q p t m)
-    → (state w l o′ r′ p′ t′ m′, record { caller = v .caller; answer = j .answer }) ≡ called (state w l o r p t m) core xs
+pub stepped : (w : Site) (l o r p t m xs : List ℕ) (core : ℕ) (v : Caller) (j : Judged) (q o′ r′ p′ t′ m′ : List ℕ)
+    → v ≡ callerOn w t core
+    → j ≡ judged (sighted l (handlerSight v p o (held m (v .world)) (held m normal))) xs
+    → q ≡ answeredIn r core (v .world) xs (j .answer)
+    → tables o′ r′ p′ t′ m′ ≡ carriedOut (j .deed) core (v .world) xs (tables o q p t m)
+    → (state w l o′ r′ p′ t′ m′, record { caller = v .world; answer = j .answer }) ≡ called (state w l o r p t m) core xs
 unfolding called applied
 stepped w l o r p t m xs core v j q o′ r′ p′ t′ m′ ev ej eq es =
-    ap (λ (y : Tables). (withTables (state w l o r p t m) y, record { caller = v .caller; answer = j .answer })) es ∙ rw (eq, ej, ev)
+    ap (λ (y : Tables). (withTables (state w l o r p t m) y, record { caller = v .world; answer = j .answer })) es ∙ rw (eq, ej, ev)
 
 -- ---- an arrival, from what each part ensures
 module _ (r p t : List ℕ) (core : ℕ) (x : Power) (y : Arriving) (was : x ≡ power p core) (is : y ≡ arrivalOf x) where
-  pub stays-away : not (y .came) ≡ true → (seat r p t, false) ≡ arrivedIn (seat r p t) core
+  pub stays-away : not (y .came) ≡ true → (coreTables r p t, false) ≡ arrivedIn (coreTables r p t) core
   unfolding arrivedIn
   stays-away e =
       let n : isPending (power p core) ≡ false = not-true (isPending (power p core)) (rw (is, was) at e) in
@@ -42,7 +42,7 @@ module _ (r p t : List ℕ) (core : ℕ) (x : Power) (y : Arriving) (was : x ≡
 
   pub comes : (r′ p′ t′ : List ℕ) (z u : Turn) → not (y .came) ≡ false → p′ ≡ withPower p core (y .power) → z ≡ turn t core → u ≡ entered z → t′ ≡ withTurn t core u
       → r′ ≡ saving r core normal (startNumbers (y .power))
-      → (seat r′ p′ t′, true) ≡ arrivedIn (seat r p t) core
+      → (coreTables r′ p′ t′, true) ≡ arrivedIn (coreTables r p t) core
   unfolding arrivedIn
   comes r′ p′ t′ z u e ep ez eu et er =
       let n : isPending (power p core) ≡ true = not-false (isPending (power p core)) (rw (is, was) at e) in

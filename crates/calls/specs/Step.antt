@@ -9,11 +9,11 @@ use Rattle.cores.specs.Cores.{power, withPower, turn, withTurn}
 use Rattle.cores.specs.declared.Power.{Power}
 use Rattle.mapping.specs.Lists.{held}
 use Rattle.judgements.specs.Names.{normal}
-use Rattle.judgements.specs.Judge.{viewed, Sight, sighted, judged}
+use Rattle.judgements.specs.Judge.{handlerSight, Sight, sighted, judged}
 use Rattle.judgements.specs.declared.Answer.{Answer}
 use Rattle.judgements.specs.declared.Deed.{Deed}
 use Rattle.judgements.specs.declared.Judged.{Judged}
-use Rattle.judgements.specs.declared.Seen.{Seen}
+use Rattle.judgements.specs.declared.Caller.{Caller}
 use Rattle.answers.specs.Answers.{answeredIn}
 use Rattle.deeds.specs.Deeds.{Tables, tables, withSaved, carriedOut}
 use Rattle.calls.specs.declared.Site.{Site}
@@ -33,13 +33,13 @@ abbrev pub state : Site → List ℕ → List ℕ → List ℕ → List ℕ → 
 state w l o r p t m = record { site = w; ledger = l; owners = o; saved = r; powers = p; turns = t; lists = m }
 
 -- ---- what a judgement sees
-abbrev pub seenBy : Site → List ℕ → ℕ → Seen
-seenBy w turns core = record { caller = turn turns core .world; is_open = turn turns core .is_open; cores = w .cores; window = w .window }
+abbrev pub callerOn : Site → List ℕ → ℕ → Caller
+callerOn w turns core = record { world = turn turns core .world; is_open = turn turns core .is_open; cores = w .cores; window = w .window }
 
 abbrev pub sight : State → ℕ → Sight
 sight s core =
     sighted (s .ledger)
-    (viewed (seenBy (s .site) (s .turns) core) (s .powers) (s .owners) (held (s .lists) (turn (s .turns) core .world)) (held (s .lists) normal))
+    (handlerSight (callerOn (s .site) (s .turns) core) (s .powers) (s .owners) (held (s .lists) (turn (s .turns) core .world)) (held (s .lists) normal))
 
 abbrev pub callerOf : State → ℕ → ℕ
 callerOf s core = turn (s .turns) core .world
@@ -57,7 +57,7 @@ withTables s t = state (s .site) (s .ledger) (t .owners) (t .saved) (t .powers) 
 
 -- the state once a deed is carried out
 abbrev pub carriedIn : Deed → State → ℕ → ℕ → List ℕ → State
-carriedIn d s core caller xs = withTables s (carriedOut d (s .site .window) core caller xs (tablesOf s))
+carriedIn d s core caller xs = withTables s (carriedOut d core caller xs (tablesOf s))
 
 -- the state once a call is answered
 abbrev pub withAnswer : Answer → State → ℕ → ℕ → List ℕ → State
@@ -75,23 +75,23 @@ called s core xs = (
 
 -- ---- an arrival
 -- the tables that an arrival touches
-pub record Seat : Type 0 where
+pub record CoreTables : Type 0 where
   pub saved : List ℕ
   pub powers : List ℕ
   pub turns : List ℕ
 
-abbrev pub seat : List ℕ → List ℕ → List ℕ → Seat
-seat r p t = record { saved = r; powers = p; turns = t }
+abbrev pub coreTables : List ℕ → List ℕ → List ℕ → CoreTables
+coreTables r p t = record { saved = r; powers = p; turns = t }
 
 -- what a starting core finds in its numbers: the context, seven zeros, the start address
 abbrev pub startNumbers : Power → List ℕ
 startNumbers p = p .context ∷ 0 ∷ 0 ∷ 0 ∷ 0 ∷ 0 ∷ 0 ∷ 0 ∷ p .start ∷ []
 
 -- a pending core is ON in Normal with those numbers; any other stays as it is
-unfoldable pub arrivedIn : Seat → ℕ → Seat × Bool
+unfoldable pub arrivedIn : CoreTables → ℕ → CoreTables × Bool
 arrivedIn s core =
     pick (isPending (power (s .powers) core)) (
-      seat (saving (s .saved) core normal (startNumbers (power (s .powers) core)))
+      coreTables (saving (s .saved) core normal (startNumbers (power (s .powers) core)))
           (withPower (s .powers) core (arrived (power (s .powers) core)))
           (withTurn (s .turns) core (entered (turn (s .turns) core))),
       true,
@@ -100,5 +100,5 @@ arrivedIn s core =
 
 abbrev pub arrives : State → ℕ → State × Bool
 arrives s core =
-    let a = arrivedIn (seat (s .saved) (s .powers) (s .turns)) core in
+    let a = arrivedIn (coreTables (s .saved) (s .powers) (s .turns)) core in
     (state (s .site) (s .ledger) (s .owners) (a .0 .saved) (a .0 .powers) (a .0 .turns) (s .lists), a .1)

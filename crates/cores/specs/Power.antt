@@ -41,8 +41,8 @@ unfoldable pub started : Power → ℕ → ℕ → Power
 started p start context = pick (isOn p || isPending p) p (powerOf pending start context)
 
 -- a core that is ON goes OFF
-unfoldable pub stopped : Power → Power
-stopped p = pick (isOn p) (put p off) p
+unfoldable pub goneOff : Power → Power
+goneOff p = pick (isOn p) (put p off) p
 
 -- a pending core comes ON
 unfoldable pub arrived : Power → Power
@@ -71,9 +71,9 @@ module _ (p : Power) where
   unfolding started
   started-off start context a b = pick-no _ _ _ (neither _ _ a b)
 
-  pub stopped-on : isOn p ≡ true → stopped p ≡ put p off
-  unfolding stopped
-  stopped-on e = pick-yes _ _ _ e
+  pub gone-off-on : isOn p ≡ true → goneOff p ≡ put p off
+  unfolding goneOff
+  gone-off-on e = pick-yes _ _ _ e
 
   pub arrived-pending : isPending p ≡ true → arrived p ≡ put p on
   unfolding arrived

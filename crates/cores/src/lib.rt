@@ -1,7 +1,7 @@
 // One core's power and its turn, by value, and the tables that hold them for eight cores. The definitions stand in specs/.
 ghost use mathlib.Core.Path.{_≡_};
 ghost use Prim.Native.Nat.{_≤_};
-ghost use Rattle.cores.specs.Power.{isOn, isPending, put, started, stopped, arrived, arrivalOf, handed, finished, entered};
+ghost use Rattle.cores.specs.Power.{isOn, isPending, put, started, goneOff, arrived, arrivalOf, handed, finished, entered};
 ghost use Rattle.cores.specs.Count.{bit};
 ghost use Rattle.cores.specs.Cores.{power, withPower, firstPowers, turn, withTurn, firstTurns, onCount, onMask};
 use rules::MOST_CORES;
@@ -63,8 +63,8 @@ impl Power {
     }
 
     // The core goes OFF, if it is ON.
-    pub fn stopped(self) -> Power
-        ensures { λ r. ⌜ r ≡ stopped self ⌝ }
+    pub fn gone_off(self) -> Power
+        ensures { λ r. ⌜ r ≡ goneOff self ⌝ }
     {
         if self.is_on() {
             return self.put(Power::OFF);

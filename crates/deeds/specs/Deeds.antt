@@ -3,14 +3,13 @@ use mathlib.Core.List.{List}
 use Prim.Native.Nat.{ℕ}
 use lib.ListN.{take, drop}
 use Rattle.registers.specs.Registers.{saving}
-use Rattle.cores.specs.Power.{started, stopped, handed, finished}
+use Rattle.cores.specs.Power.{started, goneOff, handed, finished}
 use Rattle.cores.specs.Cores.{power, withPower, turn, withTurn}
-use Rattle.pages.specs.declared.Window.{Window}
+use Rattle.pages.specs.Owners.{given}
 use Rattle.mapping.specs.Lists.{holding, released}
-use Rattle.transfers.specs.Transfer.{carried}
 use Rattle.judgements.specs.Names.{normal}
 use Rattle.judgements.specs.declared.Deed.{Deed}
-use Rattle.judgements.specs.declared.Deed.the-variants.{Nothing, Move, Map, Unmap, Start, Stop, HandOver, Finish}
+use Rattle.judgements.specs.declared.Deed.the-variants.{Nothing, Move, Map, Unmap, Start, GoOff, HandOver, Finish}
 
 -- page owners, saved numbers, the cores' power, what they run, mappings
 pub record Tables : Type 0 where
@@ -43,8 +42,8 @@ withLists s m = tables (s .owners) (s .saved) (s .powers) (s .turns) m
 abbrev pub startedIn : List ℕ → ℕ → ℕ → ℕ → List ℕ
 startedIn p core address context = withPower p core (started (power p core) address context)
 
-abbrev pub stoppedIn : List ℕ → ℕ → List ℕ
-stoppedIn p core = withPower p core (stopped (power p core))
+abbrev pub goneOffIn : List ℕ → ℕ → List ℕ
+goneOffIn p core = withPower p core (goneOff (power p core))
 
 abbrev pub handedIn : List ℕ → ℕ → ℕ → List ℕ
 handedIn t core to = withTurn t core (handed (turn t core) to)
@@ -61,19 +60,19 @@ abbrev pub finishNumbers : ℕ → List ℕ → List ℕ
 finishNumbers world xs = take (returned world) (drop 1 xs)
 
 -- a deed carried out for a caller on a core; a table that its clause does not name stays
-abbrev pub carriedOut : Deed → Window → ℕ → ℕ → List ℕ → Tables → Tables
-carriedOut Nothing w core caller xs s = s
+abbrev pub carriedOut : Deed → ℕ → ℕ → List ℕ → Tables → Tables
+carriedOut Nothing core caller xs s = s
 -- the pages of the run are the taker's
-carriedOut (Move start count to) w core caller xs s = withOwners s (carried w (s .owners) start count to)
+carriedOut (Move first count to) core caller xs s = withOwners s (given (s .owners) first count to)
 -- the caller's list holds the mapping
-carriedOut (Map m) w core caller xs s = withLists s (holding (s .lists) caller m)
+carriedOut (Map m) core caller xs s = withLists s (holding (s .lists) caller m)
 -- the caller's list has a free slot again
-carriedOut (Unmap virt size) w core caller xs s = withLists s (released (s .lists) caller virt size)
+carriedOut (Unmap virt size) core caller xs s = withLists s (released (s .lists) caller virt size)
 -- the target is pending, with the address and the context
-carriedOut (Start target address context) w core caller xs s = withPowers s (startedIn (s .powers) target address context)
+carriedOut (Start target address context) core caller xs s = withPowers s (startedIn (s .powers) target address context)
 -- the calling core is OFF
-carriedOut Stop w core caller xs s = withPowers s (stoppedIn (s .powers) core)
+carriedOut GoOff core caller xs s = withPowers s (goneOffIn (s .powers) core)
 -- the receiver's x0 to x7 are the caller's, and it runs
-carriedOut (HandOver to) w core caller xs s = withTurns (withSaved s (saving (s .saved) core to xs)) (handedIn (s .turns) core to)
+carriedOut (HandOver to) core caller xs s = withTurns (withSaved s (saving (s .saved) core to xs)) (handedIn (s .turns) core to)
 -- Normal's numbers from x0 on are the finisher's from x1 on, and Normal runs
-carriedOut Finish w core caller xs s = withTurns (withSaved s (saving (s .saved) core normal (finishNumbers caller xs))) (finishedIn (s .turns) core)
+carriedOut Finish core caller xs s = withTurns (withSaved s (saving (s .saved) core normal (finishNumbers caller xs))) (finishedIn (s .turns) core)

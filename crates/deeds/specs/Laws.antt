@@ -3,26 +3,25 @@ use mathlib.Core.Path.{_≡_}
 use mathlib.Core.List.{List}
 use Prim.Native.Nat.{ℕ}
 use Rattle.registers.specs.Registers.{saving}
-use Rattle.cores.specs.Power.{started, stopped, handed, finished}
+use Rattle.cores.specs.Power.{started, goneOff, handed, finished}
 use Rattle.cores.specs.Cores.{power, withPower, turn, withTurn}
 use Rattle.cores.specs.declared.Power.{Power}
 use Rattle.cores.specs.declared.Turn.{Turn}
-use Rattle.pages.specs.declared.Window.{Window}
+use Rattle.pages.specs.Owners.{given}
 use Rattle.mapping.specs.Lists.{holding, released}
 use Rattle.ranges.specs.declared.Mapping.{Mapping}
-use Rattle.transfers.specs.Transfer.{carried}
 use Rattle.judgements.specs.Names.{normal}
 use Rattle.judgements.specs.declared.Deed.{Deed}
-use Rattle.judgements.specs.declared.Deed.the-variants.{Nothing, Move, Map, Unmap, Start, Stop, HandOver, Finish}
-use Rattle.deeds.specs.Deeds.{tables, startedIn, stoppedIn, handedIn, finishedIn, finishNumbers, carriedOut}
+use Rattle.judgements.specs.declared.Deed.the-variants.{Nothing, Move, Map, Unmap, Start, GoOff, HandOver, Finish}
+use Rattle.deeds.specs.Deeds.{tables, startedIn, goneOffIn, handedIn, finishedIn, finishNumbers, carriedOut}
 
 -- what is read of one core, changed and stored is changed in its place
 module _ (t t′ : List ℕ) (core : ℕ) where
   pub starts : (a x : ℕ) (p q : Power) → p ≡ power t core → q ≡ started p a x → t′ ≡ withPower t core q → t′ ≡ startedIn t core a x
   starts a x p q e f h = rw (← e, ← f) h
 
-  pub stops : (p q : Power) → p ≡ power t core → q ≡ stopped p → t′ ≡ withPower t core q → t′ ≡ stoppedIn t core
-  stops p q e f h = rw (← e, ← f) h
+  pub goes-off : (p q : Power) → p ≡ power t core → q ≡ goneOff p → t′ ≡ withPower t core q → t′ ≡ goneOffIn t core
+  goes-off p q e f h = rw (← e, ← f) h
 
   pub hands : (to : ℕ) (p q : Turn) → p ≡ turn t core → q ≡ handed p to → t′ ≡ withTurn t core q → t′ ≡ handedIn t core to
   hands to p q e f h = rw (← f) h
@@ -30,36 +29,36 @@ module _ (t t′ : List ℕ) (core : ℕ) where
   pub finishes : (p q : Turn) → p ≡ turn t core → q ≡ finished p → t′ ≡ withTurn t core q → t′ ≡ finishedIn t core
   finishes p q e f h = rw (← f) h
 
-pub ruleset changes = (starts, stops, hands, finishes)
+pub ruleset changes = (starts, goes-off, hands, finishes)
 
 -- in each arm the deed is known, and with it what becomes of the tables
-module _ (d : Deed) (w : Window) (o r p t m : List ℕ) (core caller : ℕ) (xs : List ℕ) where
-  pub by-nothing : d ≡ Nothing → tables o r p t m ≡ carriedOut d w core caller xs (tables o r p t m)
+module _ (d : Deed) (o r p t m : List ℕ) (core caller : ℕ) (xs : List ℕ) where
+  pub by-nothing : d ≡ Nothing → tables o r p t m ≡ carriedOut d core caller xs (tables o r p t m)
   by-nothing e = rw e
 
-  pub by-move : (o′ : List ℕ) (start count to : ℕ) → d ≡ Move start count to → o′ ≡ carried w o start count to
-      → tables o′ r p t m ≡ carriedOut d w core caller xs (tables o r p t m)
-  by-move o′ start count to e h = rw (e, h)
+  pub by-move : (o′ : List ℕ) (first count to : ℕ) → d ≡ Move first count to → o′ ≡ given o first count to
+      → tables o′ r p t m ≡ carriedOut d core caller xs (tables o r p t m)
+  by-move o′ first count to e h = rw (e, h)
 
-  pub by-map : (m′ : List ℕ) (n : Mapping) → d ≡ Map n → m′ ≡ holding m caller n → tables o r p t m′ ≡ carriedOut d w core caller xs (tables o r p t m)
+  pub by-map : (m′ : List ℕ) (n : Mapping) → d ≡ Map n → m′ ≡ holding m caller n → tables o r p t m′ ≡ carriedOut d core caller xs (tables o r p t m)
   by-map m′ n e h = rw (e, h)
 
   pub by-unmap : (m′ : List ℕ) (virt size : ℕ) → d ≡ Unmap virt size → m′ ≡ released m caller virt size
-      → tables o r p t m′ ≡ carriedOut d w core caller xs (tables o r p t m)
+      → tables o r p t m′ ≡ carriedOut d core caller xs (tables o r p t m)
   by-unmap m′ virt size e h = rw (e, h)
 
-  pub by-start : (p′ : List ℕ) (c a x : ℕ) → d ≡ Start c a x → p′ ≡ startedIn p c a x → tables o r p′ t m ≡ carriedOut d w core caller xs (tables o r p t m)
+  pub by-start : (p′ : List ℕ) (c a x : ℕ) → d ≡ Start c a x → p′ ≡ startedIn p c a x → tables o r p′ t m ≡ carriedOut d core caller xs (tables o r p t m)
   by-start p′ c a x e h = rw (e, h)
 
-  pub by-stop : (p′ : List ℕ) → d ≡ Stop → p′ ≡ stoppedIn p core → tables o r p′ t m ≡ carriedOut d w core caller xs (tables o r p t m)
-  by-stop p′ e h = rw (e, h)
+  pub by-off : (p′ : List ℕ) → d ≡ GoOff → p′ ≡ goneOffIn p core → tables o r p′ t m ≡ carriedOut d core caller xs (tables o r p t m)
+  by-off p′ e h = rw (e, h)
 
   pub by-hand-over : (r′ t′ : List ℕ) (to : ℕ) → d ≡ HandOver to → r′ ≡ saving r core to xs → t′ ≡ handedIn t core to
-      → tables o r′ p t′ m ≡ carriedOut d w core caller xs (tables o r p t m)
+      → tables o r′ p t′ m ≡ carriedOut d core caller xs (tables o r p t m)
   by-hand-over r′ t′ to e h k = rw (e, h, k)
 
   pub by-finish : (r′ t′ : List ℕ) → d ≡ Finish → r′ ≡ saving r core normal (finishNumbers caller xs) → t′ ≡ finishedIn t core
-      → tables o r′ p t′ m ≡ carriedOut d w core caller xs (tables o r p t m)
+      → tables o r′ p t′ m ≡ carriedOut d core caller xs (tables o r p t m)
   by-finish r′ t′ e h k = rw (e, h, k)
 
-pub ruleset deeds = (by-nothing, by-move, by-map, by-unmap, by-start, by-stop, by-hand-over, by-finish)
+pub ruleset deeds = (by-nothing, by-move, by-map, by-unmap, by-start, by-off, by-hand-over, by-finish)

@@ -2,14 +2,13 @@
 ghost use mathlib.Core.Path.{_≡_};
 ghost use Rattle.registers.specs.Registers.{saving};
 ghost use Rattle.judgements.specs.Names.{normal};
-ghost use Rattle.deeds.specs.Deeds.{tables, startedIn, stoppedIn, handedIn, finishedIn, finishNumbers, carriedOut};
+ghost use Rattle.deeds.specs.Deeds.{tables, startedIn, goneOffIn, handedIn, finishedIn, finishNumbers, carriedOut};
 use cores::Powers;
 use cores::Turns;
 use judgements::Deed;
 use judgements::names;
 use mapping::Lists;
 use pages::Owners;
-use pages::Window;
 use registers::Saved;
 
 // The target becomes pending, with the address and the context that it is to find.
@@ -21,11 +20,11 @@ fn start(t: &mut Powers, target: u64, address: u64, context: u64)
 }
 
 // The calling core goes OFF.
-fn stop(t: &mut Powers, core: u64)
-    ensures { λ _. ⌜ now (t .exit) ≡ stoppedIn (now (t .entry)) core ⌝ }
+fn go_off(t: &mut Powers, core: u64)
+    ensures { λ _. ⌜ now (t .exit) ≡ goneOffIn (now (t .entry)) core ⌝ }
 {
     let was = cores::power_of(t, core);
-    cores::set_power(t, core, was.stopped());
+    cores::set_power(t, core, was.gone_off());
 }
 
 // The receiver runs.
@@ -55,7 +54,6 @@ fn give_back(t: &mut Saved, core: u64, caller: u64, x: &[u64; 8])
 // Carries a deed out for the world that called, with its eight numbers.
 pub fn do_deed(
     d: Deed,
-    w: Window,
     core: u64,
     caller: u64,
     x: &[u64; 8],
@@ -65,11 +63,11 @@ pub fn do_deed(
     turns: &mut Turns,
     lists: &mut Lists,
 )
-    ensures { λ _. ⌜ tables (now (owners .exit)) (now (saved .exit)) (now (powers .exit)) (now (turns .exit)) (now (lists .exit)) ≡ carriedOut d w core caller (now (x .entry)) (tables (now (owners .entry)) (now (saved .entry)) (now (powers .entry)) (now (turns .entry)) (now (lists .entry))) ⌝ }
+    ensures { λ _. ⌜ tables (now (owners .exit)) (now (saved .exit)) (now (powers .exit)) (now (turns .exit)) (now (lists .exit)) ≡ carriedOut d core caller (now (x .entry)) (tables (now (owners .entry)) (now (saved .entry)) (now (powers .entry)) (now (turns .entry)) (now (lists .entry))) ⌝ }
 {
     match d {
         Deed::Nothing => {}
-        Deed::Move { start, count, to } => transfers::carry(w, owners, start, count, to),
+        Deed::Move { first, count, to } => pages::give(owners, first, count, to),
         Deed::Map(m) => mapping::hold(lists, caller, m),
         Deed::Unmap { virt, size } => mapping::release(lists, caller, virt, size),
         Deed::Start {
@@ -77,7 +75,7 @@ pub fn do_deed(
             start: address,
             context,
         } => start(powers, target, address, context),
-        Deed::Stop => stop(powers, core),
+        Deed::GoOff => go_off(powers, core),
         Deed::HandOver(to) => {
             registers::save(saved, core, to, x);
             hand_over(turns, core, to);

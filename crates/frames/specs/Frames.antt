@@ -7,7 +7,7 @@ use Rattle.cores.specs.Cores.{firstPowers, firstTurns}
 use Rattle.pages.specs.Owners.{unowned}
 use Rattle.pages.specs.Named.{unnamed}
 use Rattle.mapping.specs.Lists.{unmapped}
-use Rattle.calls.specs.Step.{State, state, Seat, seat}
+use Rattle.calls.specs.Step.{State, state, CoreTables, coreTables}
 use Rattle.parsing.specs.declared.Status.{Status}
 use Rattle.parsing.specs.declared.Frame.{Frame}
 use Rattle.parsing.specs.declared.Frame.the-variants as Frame
@@ -36,8 +36,8 @@ machine s n l o r p t m = record { setup = s; named = n; ledger = l; owners = o;
 abbrev pub stateOf : Machine → State
 stateOf m = state (siteOf (m .setup)) (m .ledger) (m .owners) (m .saved) (m .powers) (m .turns) (m .lists)
 
-abbrev pub seatOf : Machine → Seat
-seatOf m = seat (m .saved) (m .powers) (m .turns)
+abbrev pub coreTablesOf : Machine → CoreTables
+coreTablesOf m = coreTables (m .saved) (m .powers) (m .turns)
 
 -- before the first frame
 abbrev pub first : Machine
@@ -57,8 +57,8 @@ abbrev pub withState : Machine → (List ℕ × State) × Reply → Machine × R
 withState m o =
     (machine (o .0 .0) (m .named) (o .0 .1 .ledger) (o .0 .1 .owners) (o .0 .1 .saved) (o .0 .1 .powers) (o .0 .1 .turns) (o .0 .1 .lists), o .1)
 
-abbrev pub withSeat : Machine → Seat × Status → Machine × Reply
-withSeat m o = (machine (m .setup) (m .named) (m .ledger) (m .owners) (o .0 .saved) (o .0 .powers) (o .0 .turns) (m .lists), Told (o .1))
+abbrev pub withCoreTables : Machine → CoreTables × Status → Machine × Reply
+withCoreTables m o = (machine (m .setup) (m .named) (m .ledger) (m .owners) (o .0 .saved) (o .0 .powers) (o .0 .turns) (m .lists), Told (o .1))
 
 -- the machine after a frame with these eight numbers, and the answer; a line that is no frame has its answer already
 unfoldable pub framed : Machine → Frame → List ℕ → Machine × Reply
@@ -66,5 +66,5 @@ framed m (Frame.Site base pages count) xs = withSetup m (sited (m .setup) base p
 framed m (Frame.Entry first last kind number) xs = withLedger m (entering (m .setup) (m .ledger) first last kind number)
 framed m (Frame.Name first count to) xs = withPages m (namingIn (m .setup) (m .owners) (m .named) first count to)
 framed m (Frame.Call core) xs = withState m (calling (m .setup) (stateOf m) core xs)
-framed m (Frame.Arrival core) xs = withSeat m (arriving (m .setup) (seatOf m) core)
+framed m (Frame.Arrival core) xs = withCoreTables m (arriving (m .setup) (coreTablesOf m) core)
 framed m (Frame.Refused why) xs = (m, Told why)

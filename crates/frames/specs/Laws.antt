@@ -2,7 +2,7 @@
 use mathlib.Core.Path.{_≡_}
 use mathlib.Core.List.{List}
 use Prim.Native.Nat.{ℕ}
-use Rattle.calls.specs.Step.{state, seat}
+use Rattle.calls.specs.Step.{state, coreTables}
 use Rattle.calls.specs.declared.Site.{Site}
 use Rattle.parsing.specs.declared.Status.{Status}
 use Rattle.parsing.specs.declared.Frame.{Frame}
@@ -36,7 +36,7 @@ module _ (s n l o v p t k : List ℕ) (f : Frame) (xs : List ℕ) where
   unfolding framed
   step-call core s′ w l′ o′ v′ p′ t′ k′ r e h = rw (e, ← h)
 
-  pub step-arrival : (core : ℕ) (v′ p′ t′ : List ℕ) (r : Status) → f ≡ Frame.Arrival core → (seat v′ p′ t′, r) ≡ arriving s (seat v p t) core
+  pub step-arrival : (core : ℕ) (v′ p′ t′ : List ℕ) (r : Status) → f ≡ Frame.Arrival core → (coreTables v′ p′ t′, r) ≡ arriving s (coreTables v p t) core
       → (machine s n l o v′ p′ t′ k, Told r) ≡ framed (machine s n l o v p t k) f xs
   unfolding framed
   step-arrival core v′ p′ t′ r e h = rw (e, ← h)

@@ -12,7 +12,7 @@ use Rattle.registers.specs.declared.Shown.{Shown}
 use Rattle.cores.specs.Power.{isOn, isPending}
 use Rattle.cores.specs.Cores.{power}
 use Rattle.pages.specs.Naming.{naming}
-use Rattle.calls.specs.Step.{State, called, applied, Seat, arrivedIn, arrives}
+use Rattle.calls.specs.Step.{State, called, applied, CoreTables, arrivedIn, arrives}
 use Rattle.parsing.specs.declared.Status.{Status}
 use Rattle.parsing.specs.declared.Status.the-variants.{Accepted}
 use Rattle.parsing.specs.declared.Frame.{Frame}
@@ -26,7 +26,7 @@ use Rattle.calling.specs.declared.Reply.{Reply}
 use Rattle.calling.specs.declared.Reply.the-variants.{Told, Called}
 use Rattle.calling.specs.declared.Tried.{Tried}
 use Rattle.arriving.specs.Arriving.{arriving}
-use Rattle.frames.specs.Frames.{Machine, stateOf, seatOf, withSetup, withLedger, withPages, withState, withSeat, framed}
+use Rattle.frames.specs.Frames.{Machine, stateOf, coreTablesOf, withSetup, withLedger, withPages, withState, withCoreTables, framed}
 
 -- ---- a frame by its outcomes: a case for a line that is no frame, one for all refusals, and one for each kind that is accepted, with what it has met
 module _ (m : Machine) (xs : List ℕ) (P : Frame → Machine × Reply → Type 0)
@@ -41,7 +41,7 @@ module _ (m : Machine) (xs : List ℕ) (P : Frame → Machine × Reply → Type 
     (call : (core : ℕ) → ready (m .setup) ≡ true → core < cores (m .setup) → isOn (power (m .powers) core) ≡ true
     → P (Frame.Call core) (withState m (performed (m .setup) (stateOf m) core xs)))
     (arrival : (core : ℕ) → ready (m .setup) ≡ true → core < cores (m .setup) → isPending (power (m .powers) core) ≡ true
-    → P (Frame.Arrival core) (withSeat m (arrivedIn (seatOf m) core .0, Accepted))) where
+    → P (Frame.Arrival core) (withCoreTables m (arrivedIn (coreTablesOf m) core .0, Accepted))) where
   pub framed-by : (f : Frame) → P f (framed m f xs)
   unfolding framed calling trying performed arriving
   framed-by (Frame.Site base pages count) =
@@ -57,7 +57,7 @@ module _ (m : Machine) (xs : List ℕ) (P : Frame → Machine × Reply → Type 
       ruled-by (λ (o : (List ℕ × State) × Tried). P (Frame.Call core) (withState m (o .0, replied core (o .0 .1) (o .1)))) _ _ _ _ _
       (refused (Frame.Call core)) (λ a b c. call core (not-false _ a) (leb-false _ _ b) (not-false _ c))
   framed-by (Frame.Arrival core) =
-      ruled-by (λ (o : Seat × Status). P (Frame.Arrival core) (withSeat m o)) _ _ _ _ _
+      ruled-by (λ (o : CoreTables × Status). P (Frame.Arrival core) (withCoreTables m o)) _ _ _ _ _
       (refused (Frame.Arrival core)) (λ a b c. arrival core (not-false _ a) (leb-false _ _ b) (not-false _ c))
   framed-by (Frame.Refused why) = unread why
 
@@ -139,5 +139,5 @@ module _ (m : Machine) (core : ℕ) where
   unfolding performed called applied
   call-state xs = rw (over-window (m .setup), over-cores (m .setup))
 
-  pub arrival-state : (r : Status) → stateOf (withSeat m (arrivedIn (seatOf m) core .0, r) .0) ≡ arrives (stateOf m) core .0
+  pub arrival-state : (r : Status) → stateOf (withCoreTables m (arrivedIn (coreTablesOf m) core .0, r) .0) ≡ arrives (stateOf m) core .0
   arrival-state r = refl

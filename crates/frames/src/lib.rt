@@ -46,7 +46,7 @@ pub fn step(
             calling::make_call(setup, core, x, book, owners, saved, powers, turns, lists)
         }
         Frame::Arrival { core } => {
-            Reply::Told(arriving::bring(setup, core, saved, powers, turns))
+            Reply::Told(arriving::make_arrival(setup, core, saved, powers, turns))
         }
         Frame::Refused(why) => Reply::Told(why),
     }

@@ -23,7 +23,7 @@ use Rattle.mapping.specs.Once.{coverings, covered-few, one-covers, lead-exact}
 use Rattle.ranges.specs.declared.Mapping.{Mapping}
 use Rattle.mapping.specs.declared.Lead.the-variants.{To}
 use Rattle.judgements.specs.Grounds.{Calls}
-use Rattle.calls.specs.Kept.{Right}
+use Rattle.calls.specs.Right.{Right}
 use Rattle.setup.specs.Table.{ready, ended, cores}
 use Rattle.calling.specs.Calling.{siteOf}
 use Rattle.frames.specs.Frames.{Machine, first, stateOf}
@@ -89,7 +89,7 @@ module _ (m : Machine) (fit : Fit m) where
   fit-runs core o =
       by-time
       (λ e r.
-      either (ltb core 8) (λ h. r .seated core (ltb-true _ _ h) .world)
+      either (ltb core 8) (λ h. r .running core (ltb-true _ _ h) .world)
       (λ h. absurd (yes-or-no _ o (fit-absent core e (omega (arith, ltb-false core 8 h, r .most-cores)) .0))))
       (λ e.
       either (eqb core 0) (λ z. rw (e, eqb-true core 0 z, first-turn 0 (omega arith)) (inl refl))

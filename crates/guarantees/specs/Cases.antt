@@ -28,7 +28,7 @@ use Rattle.mapping.specs.Lists.{held, held-some}
 use Rattle.ranges.specs.declared.Mapping.{Mapping}
 use Rattle.transfers.specs.Transfer.{moveTests, moveVerdict}
 use Rattle.judgements.specs.Names.{secure, normal, realm}
-use Rattle.judgements.specs.Judge.{View, denied, granted, oneOf, callers, calledBy, argsOf, byHandler, found, judgedBy, judged, board, wanted, mapping, unmapping, standard, starting, stating, goodStart, ownedAt, realms, granuleIn, granuleOut, moving}
+use Rattle.judgements.specs.Judge.{HandlerSight, denied, granted, oneOf, callers, calledBy, argsOf, byHandler, found, judgedBy, judged, board, wanted, mapping, unmapping, standard, starting, tellingState, goodStart, ownedAt, realmCall, granuleIn, granuleOut, moving}
 use Rattle.judgements.specs.declared.Answer.{Answer}
 use Rattle.judgements.specs.declared.Answer.the-variants as Answer
 use Rattle.judgements.specs.declared.Deed.the-variants as Deed
@@ -162,8 +162,8 @@ case n = nth table (n - 1)
 abbrev judgement : Call → Judged
 judgement c = judgedIn (c .before) (c .core) (c .numbers)
 
-abbrev view : Call → View
-view c = sight (c .before) (c .core) .view
+abbrev view : Call → HandlerSight
+view c = sight (c .before) (c .core) .inner
 
 abbrev args : Call → Args
 args c = argsOf (calledBy (c .numbers)) (c .numbers)
@@ -203,7 +203,7 @@ p4 c e = answered c (Answer.No Reason.Unserved) refl (rw e (either (oneOf (world
 
 -- a page that is none of the window
 no-page : (c : Call) → Among (identifier c) onePage → Reaches c 2 → world c ≡ realm → runOf (window c) (x c 1) 1 ≡ Outside → Answered c (negative 2)
-unfolding argsOf byHandler standard realms granuleIn granuleOut moving moveVerdict moveTests pick sieve admitted parts
+unfolding argsOf byHandler standard realmCall granuleIn granuleOut moving moveVerdict moveTests pick sieve admitted parts
 no-page c (inl e) to r o = settled c e to (from-realm r) (Answer.No Reason.Invalid) refl refl (rw (r, o))
 no-page c (inr (inl e)) to r o = settled c e to (from-realm r) (Answer.No Reason.Invalid) refl refl (rw (r, o))
 
@@ -239,11 +239,11 @@ unfolding argsOf byHandler board unmapping sieve pick admitted parts
 p10 c (inl e) to may h = settled c e to may (Answer.No Reason.NoMapping) refl refl (rw (not-half c h))
 
 module _ (c : Call) (r : world c ≡ normal) where
-  no-level : (x c 2 ≡ 0 → ⊥) → stating (view c .seen) (view c .powers) (args c) ≡ denied Reason.Invalid
-  unfolding argsOf stating sieve pick
+  no-level : (x c 2 ≡ 0 → ⊥) → tellingState (view c .caller) (view c .powers) (args c) ≡ denied Reason.Invalid
+  unfolding argsOf tellingState sieve pick
   no-level f = either (leb (c .before .site .cores) (x c 1)) (λ y. rw (r, y)) (λ n. rw (r, n, ne-eqb (x c 2) 0 f))
 
-  oneself : OneselfWell c → starting (view c .seen) (view c .powers) (view c .owners) (args c) ≡ denied Reason.AlreadyOn
+  oneself : OneselfWell c → starting (view c .caller) (view c .powers) (view c .owners) (args c) ≡ denied Reason.AlreadyOn
   unfolding argsOf starting goodStart ownedAt sieve pick
   oneself o =
       rw (

@@ -124,5 +124,5 @@ is-caller w c =
 
 -- A call from a world that may call, whose bits 23 to 16 pass the test, is judged by the handler of its type and owner, and refused where there is none.
 pub reaches : (s : State) (core : ℕ) (xs : List ℕ) → Calls (callerOf s core) → admitted (calledBy xs) ≡ true
-    → judgedIn s core xs ≡ found (sight s core .view) (argsOf (calledBy xs) xs) (key xs) (handler (s .ledger) (calledBy xs .fast) (calledBy xs .owner))
+    → judgedIn s core xs ≡ found (sight s core .inner) (argsOf (calledBy xs) xs) (key xs) (handler (s .ledger) (calledBy xs .fast) (calledBy xs .owner))
 reaches s core xs c ok = judged-found (sight s core) xs (is-caller (callerOf s core) c) ok

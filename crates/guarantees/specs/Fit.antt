@@ -21,13 +21,13 @@ use Rattle.mapping.specs.Lists.{unmapped, held-unmapped}
 use Rattle.mapping.specs.Sound.{sound-none}
 use Rattle.calls.specs.Step.{State, state, called, applied, arrivedIn}
 use Rattle.calls.specs.Effects.{WholeTables}
-use Rattle.calls.specs.Kept.{Right, called-right, arrival-right, first-right}
+use Rattle.calls.specs.Right.{Right, called-right, arrival-right, first-right}
 use Rattle.calls.specs.declared.Site.{Site}
 use Rattle.parsing.specs.declared.Frame.{Frame}
 use Rattle.setup.specs.Table.{ready, ended, window, cores, fixed, over, unset-ready, unset-ended, fixed-ready, fixed-ended, fixed-window, fixed-cores, over-ready, over-ended}
 use Rattle.setup.specs.Frames.{fits}
 use Rattle.calling.specs.Calling.{performed}
-use Rattle.frames.specs.Frames.{Machine, machine, first, stateOf, seatOf, withSetup, withPages, withState, withSeat}
+use Rattle.frames.specs.Frames.{Machine, machine, first, stateOf, coreTablesOf, withSetup, withPages, withState, withCoreTables}
 use Rattle.frames.specs.Stays.{framed-by, call-state, arrival-state}
 use Rattle.calling.specs.declared.Reply.{Reply}
 use Rattle.guarantees.specs.Runs.{Event, Events, next, ran, always}
@@ -82,7 +82,7 @@ given-right s r b first count to =
       };
       worlds = given-worlds (s .owners) first count to (r .whole .owners-whole) (r .worlds);
       sound = λ world. rw (b, held-unmapped world) (sound-none (s .site .window) _ world);
-      seated = r .seated;
+      running = r .running;
       absent = r .absent;
     }
 
@@ -102,7 +102,7 @@ entry-right s r l =
       };
       worlds = r .worlds;
       sound = r .sound;
-      seated = r .seated;
+      running = r .running;
       absent = r .absent;
     }
 

@@ -17,10 +17,10 @@ use Rattle.pages.specs.Naming.{naming, Granted, naming-granted, granted-inside,
 use Rattle.pages.specs.declared.Place.the-variants.{Page}
 use Rattle.rules.specs.declared.Entered.the-variants as Entered
 use Rattle.judgements.specs.declared.Deed.{Deed}
-use Rattle.judgements.specs.declared.Deed.the-variants.{Nothing, Move, Map, Unmap, Start, Stop, HandOver, Finish}
+use Rattle.judgements.specs.declared.Deed.the-variants.{Nothing, Move, Map, Unmap, Start, GoOff, HandOver, Finish}
 use Rattle.calls.specs.Step.{State, sight, called, applied, arrivedIn}
-use Rattle.calls.specs.Effects.{deedIn, after, Carries, owners-spared, movable, moved-inside, moved-outside}
-use Rattle.calls.specs.Kept.{Right}
+use Rattle.calls.specs.Effects.{deedIn, after, Carries, owners-spared, moved-inside, moved-outside}
+use Rattle.calls.specs.Right.{Right}
 use Rattle.parsing.specs.declared.Status.{Status}
 use Rattle.parsing.specs.declared.Status.the-variants.{Accepted}
 use Rattle.parsing.specs.declared.Frame.{Frame}
@@ -38,8 +38,12 @@ use Rattle.guarantees.specs.Fit.{Fit, fit-next}
 
 -- ---- one line
 -- what is done for a granted transfer
-moves-deed : {m : Machine} {e : Event} {page to : ℕ} (t : Transfers m e page to) → deedIn (stateOf m) (t .core) (e .1) ≡ Move (t .start) (t .count) to
-moves-deed {m} {e} {to = to} t = granted-moves (sight (stateOf m) (t .core)) (e .1) (t .start) (t .count) to (t .granted)
+moves-deed : {m : Machine} {e : Event} {page to : ℕ} (t : Transfers m e page to) → deedIn (stateOf m) (t .core) (e .1) ≡ Move (t .lowest) (t .count) to
+moves-deed {m} {e} {to = to} t =
+    let g = granted-moves (sight (stateOf m) (t .core)) (e .1) (t .start) (t .count) to (t .granted) in
+    let k : Page (g .first) ≡ Page (t .lowest) = sym (g .lies) ∙ t .lies in
+    let f : g .first ≡ t .lowest = cc in
+    rw (← f) (g .moves)
 
 -- either of the two
 data Gives (m : Machine) (e : Event) (page to : ℕ) : Type 0 where
@@ -51,7 +55,7 @@ gives-one : {m : Machine} {e : Event} {page to other : ℕ} → Gives m e page t
 gives-one {m} {e} {to = to} {other = other} (moves a) (moves b) =
     let c : Frame.Call (a .core) ≡ Frame.Call (b .core) = sym (a .is-call) ∙ b .is-call in
     let d : a .core ≡ b .core = cc in
-    let g : Move (a .start) (a .count) to ≡ Move (b .start) (b .count) other = sym (moves-deed a) ∙ rw d (moves-deed b) in
+    let g : Move (a .lowest) (a .count) to ≡ Move (b .lowest) (b .count) other = sym (moves-deed a) ∙ rw d (moves-deed b) in
     cc
 gives-one (moves a) (names b) = omega (arith, ap byte (sym (a .is-call) ∙ b .is-name))
 gives-one (names a) (moves b) = omega (arith, ap byte (sym (a .is-name) ∙ b .is-call))
@@ -78,13 +82,13 @@ inside-or-not lowest count page y n =
     (λ a. n (λ h l. omega (arith, leb-false lowest page a)))
 
 -- what is done is a transfer, or leaves every owner
-transfer-or-not : {P : Type 0} (d : Deed) → ((start count to : ℕ) → d ≡ Move start count to → P) → ((Carries d → ⊥) → P) → P
+transfer-or-not : {P : Type 0} (d : Deed) → ((first count to : ℕ) → d ≡ Move first count to → P) → ((Carries d → ⊥) → P) → P
 transfer-or-not Nothing y n = n (λ k. k)
-transfer-or-not (Move start count to) y n = y start count to refl
+transfer-or-not (Move first count to) y n = y first count to refl
 transfer-or-not (Map m) y n = n (λ k. k)
 transfer-or-not (Unmap virt size) y n = n (λ k. k)
 transfer-or-not (Start c a x) y n = n (λ k. k)
-transfer-or-not Stop y n = n (λ k. k)
+transfer-or-not GoOff y n = n (λ k. k)
 transfer-or-not (HandOver to) y n = n (λ k. k)
 transfer-or-not Finish y n = n (λ k. k)
 
@@ -114,34 +118,31 @@ module _ (m : Machine) (fit : Fit m) (e : Event) (page : ℕ) where
       → (o : Machine) → o .owners ≡ after (stateOf m) core (e .1) .owners → Outcome m e page o
   call-outcome core a is ok o w =
       transfer-or-not (deedIn (stateOf m) core (e .1))
-      (λ start count to d.
-      let v = movable (stateOf m) core (e .1) start count to d in
-      inside-or-not (v .first) count page
-      (λ h l. gave to (moves (record { core = core; is-call = is; accepted = ok; start = start; count = count; granted = moves-granted (sight (stateOf m) core) (e .1) start count to d; lowest = v .first; lies = v .lies; low = h; high = l }))
-      (rw w (moved-inside (stateOf m) core (e .1) start count to d page (fit .right a .whole .owners-whole) h l .1)))
-      (λ n. kept (λ u. elsewhere u start count to d (v .first) (v .lies) n) (rw w (moved-outside (stateOf m) core (e .1) start count to d page n))))
+      (λ lowest count to d.
+      let v = moves-granted (sight (stateOf m) core) (e .1) lowest count to d in
+      inside-or-not lowest count page
+      (λ h l. gave to (moves (record { core = core; is-call = is; accepted = ok; start = v .start; count = count; granted = v .granted; lowest = lowest; lies = v .lies; low = h; high = l }))
+      (rw w (moved-inside (stateOf m) core (e .1) lowest count to d page (fit .right a .whole .owners-whole) h l .1)))
+      (λ n. kept (λ u. elsewhere u lowest count to d n) (rw w (moved-outside (stateOf m) core (e .1) lowest count to d page n))))
       (λ n. kept (λ u. still u n) (rw w (ap (λ (t : List ℕ). owner t page) (owners-spared (stateOf m) core (e .1) n))))
     where
       same-core : (c : ℕ) → e .0 ≡ Frame.Call c → c ≡ core
       same-core c is2 = let k : Frame.Call c ≡ Frame.Call core = sym is2 ∙ is in cc
 
-      elsewhere : (u start count to : ℕ) → deedIn (stateOf m) core (e .1) ≡ Move start count to → (lowest : ℕ) → runOf (window (m .setup)) start count ≡ Page lowest
-          → (lowest ≤ page → page < lowest + count → ⊥) → Gives m e page u → ⊥
-      elsewhere u start count to d lowest lies n (names t) = omega (arith, ap byte (sym (t .is-name) ∙ is))
-      elsewhere u start count to d lowest lies n (moves t) =
+      elsewhere : (u lowest count to : ℕ) → deedIn (stateOf m) core (e .1) ≡ Move lowest count to → (lowest ≤ page → page < lowest + count → ⊥) → Gives m e page u → ⊥
+      elsewhere u lowest count to d n (names t) = omega (arith, ap byte (sym (t .is-name) ∙ is))
+      elsewhere u lowest count to d n (moves t) =
           let c : t .core ≡ core = same-core (t .core) (t .is-call) in
-          let g : Move (t .start) (t .count) u ≡ Move start count to = sym (rw c at (moves-deed t)) ∙ d in
-          let x : t .start ≡ start = cc in
+          let g : Move (t .lowest) (t .count) u ≡ Move lowest count to = sym (rw c at (moves-deed t)) ∙ d in
+          let x : t .lowest ≡ lowest = cc in
           let y : t .count ≡ count = cc in
-          let k : Page (t .lowest) ≡ Page lowest = sym (rw (x, y) at (t .lies)) ∙ lies in
-          let f : t .lowest ≡ lowest = cc in
           n (omega (arith, t .low)) (omega (arith, t .high))
 
       still : (u : ℕ) → (Carries (deedIn (stateOf m) core (e .1)) → ⊥) → Gives m e page u → ⊥
       still u n (names t) = omega (arith, ap byte (sym (t .is-name) ∙ is))
       still u n (moves t) =
           let c : t .core ≡ core = same-core (t .core) (t .is-call) in
-          let g : deedIn (stateOf m) core (e .1) ≡ Move (t .start) (t .count) u = rw c at (moves-deed t) in
+          let g : deedIn (stateOf m) core (e .1) ≡ Move (t .lowest) (t .count) u = rw c at (moves-deed t) in
           n (rw g tt)
 
   -- any line

@@ -77,9 +77,9 @@ follows-ran m [] = stay
 follows-ran m (e ∷ rest) = go refl (follows-ran (next m e) rest)
 
 -- So what is true of the run of the definitions is true of whatever keeps the promise.
-pub carried : (P : Machine → List Reply → Type 0) {m last : Machine} {run : Events} {answers : List Reply}
+pub by-following : (P : Machine → List Reply → Type 0) {m last : Machine} {run : Events} {answers : List Reply}
     → Follows m run last answers → P (ran m run) (replies m run) → P last answers
-carried P f h = let k = follows-is f in rw (k .0, k .1) h
+by-following P f h = let k = follows-is f in rw (k .0, k .1) h
 
 -- Every line gets one answer.
 pub replies-count : (m : Machine) (run : Events) → length (replies m run) ≡ length run

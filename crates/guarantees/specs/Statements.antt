@@ -131,7 +131,7 @@ pub record Heeded (m : Machine) (e : Event) (last : Machine) (answer : Reply) : 
   pub refused-call : (core : ℕ) (r : Reason) → e .0 ≡ Frame.Call core → Taken answer → answerIn (stateOf m) core (e .1) ≡ No r → last ≡ denied m core (e .1) r
   -- A call that passes the test on bits 23 to 16 is judged by the handler that the ledger has for its type and owner, or by none.
   pub dispatched : (core : ℕ) → e .0 ≡ Frame.Call core → Taken answer → admitted (calledBy (e .1)) ≡ true
-      → judgedIn (stateOf m) core (e .1) ≡ found (sight (stateOf m) core .view) (argsOf (calledBy (e .1)) (e .1)) (key (e .1)) (handler (m .ledger) (calledBy (e .1) .fast) (calledBy (e .1) .owner))
+      → judgedIn (stateOf m) core (e .1) ≡ found (sight (stateOf m) core .inner) (argsOf (calledBy (e .1)) (e .1)) (key (e .1)) (handler (m .ledger) (calledBy (e .1) .fast) (calledBy (e .1) .owner))
   -- A call changes no number saved for another core.
   pub other-cores : (core c u j : ℕ) → e .0 ≡ Frame.Call core → (core ≡ c → ⊥) → saved (last .saved) c u j ≡ saved (m .saved) c u j
   -- Except for a hand-over or its finish, it changes no number saved for another world.

@@ -14,17 +14,17 @@ use Rattle.judgements.specs.Names.{secure, normal, realm}
 use Rattle.judgements.specs.Grounds.{Takes}
 use Rattle.judgements.specs.declared.Answer.the-variants.{No}
 use Rattle.judgements.specs.declared.Deed.{Deed}
-use Rattle.judgements.specs.declared.Deed.the-variants.{Nothing, Move, Map, Unmap, Start, Stop, HandOver, Finish}
+use Rattle.judgements.specs.declared.Deed.the-variants.{Nothing, Move, Map, Unmap, Start, GoOff, HandOver, Finish}
 use Rattle.calls.specs.Step.{State, sight, callerOf, called, arrivedIn, startNumbers}
 use Rattle.calls.specs.Effects.{after, deedIn, answerIn, Receives, refused, saved-spared, turn-handed, turn-finished, own-results, own-frame, own-past, hands, handed-numbers, handed-rest, finishes, finished-numbers, finished-rest, arrival-saved, arrived-numbers, arrived-power, arrived-turn}
-use Rattle.calls.specs.Kept.{Right}
+use Rattle.calls.specs.Right.{Right}
 use Rattle.parsing.specs.declared.Status.{Status}
 use Rattle.parsing.specs.declared.Status.the-variants.{Accepted}
 use Rattle.parsing.specs.declared.Frame.{Frame}
 use Rattle.parsing.specs.declared.Frame.the-variants as Frame
 use Rattle.setup.specs.Table.{ready, ended, cores, over}
 use Rattle.calling.specs.Calling.{performed, shownIn}
-use Rattle.frames.specs.Frames.{Machine, framed, stateOf, seatOf, withState, withSeat}
+use Rattle.frames.specs.Frames.{Machine, framed, stateOf, coreTablesOf, withState, withCoreTables}
 use Rattle.frames.specs.Stays.{framed-by, shown-not-told, refused-same, told-goes-on, call-ends}
 use Rattle.calling.specs.declared.Reply.{Reply}
 use Rattle.calling.specs.declared.Reply.the-variants.{Told, Called}
@@ -103,13 +103,13 @@ module _ (m : Machine) (fit : Fit m) (e : Event) (core : ℕ) (is : e .0 ≡ Fra
 
     -- the world that runs there is one that calls
     may : oneOf (callerOf (stateOf m) core) callers ≡ true
-    may = is-caller (callerOf (stateOf m) core) (right .seated core inside .world)
+    may = is-caller (callerOf (stateOf m) core) (right .running core inside .world)
 
     calling : callerOf (stateOf m) core < 4
     calling =
         ⊎-elim (λ (k : callerOf (stateOf m) core ≡ normal). omega arith)
         (λ (k : Takes (callerOf (stateOf m) core)). ⊎-elim (λ (k : callerOf (stateOf m) core ≡ secure). omega arith) (λ (k : callerOf (stateOf m) core ≡ realm). omega arith) k)
-        (right .seated core inside .world)
+        (right .running core inside .world)
 
     shows : reply m e ≡ shownIn core (stateOf (next m e))
     unfolding performed
@@ -127,7 +127,7 @@ received (Move start count to) u h f r = r
 received (Map m) u h f r = r
 received (Unmap virt size) u h f r = r
 received (Start c a x) u h f r = r
-received Stop u h f r = r
+received GoOff u h f r = r
 received (HandOver to) u h f r = h to refl
 received Finish u h f r = f refl
 
@@ -200,7 +200,7 @@ heeded m fit e =
       set-up-ends = λ t. taken-ends m e t;
       set-up-goes-on = λ why k. told-goes-on m (e .0) (e .1) why k;
       refused-call = λ core r is t a. call-refused m fit e core is r t a;
-      dispatched = λ core is t ok. reaches (stateOf m) core (e .1) (right m fit e core is t .seated core (inside m fit e core is t) .world) ok;
+      dispatched = λ core is t ok. reaches (stateOf m) core (e .1) (right m fit e core is t .running core (inside m fit e core is t) .world) ok;
       other-cores = λ core c u j is n. call-spares m fit e core is c u j (λ k. absurd (n k)) (λ k. absurd (n k));
       other-worlds = λ core c u j is n h f. call-spares m fit e core is c u j (λ k. n) (λ k. received (deedIn (stateOf m) core (e .1)) u h f);
       no-receiver = λ core u j is n h. call-spares m fit e core is core u j (λ k. n) (λ k. h);

@@ -26,7 +26,7 @@ use Rattle.calling.specs.declared.Reply.{Reply}
 use Rattle.calling.specs.declared.Reply.the-variants.{Told, Called}
 use Rattle.answering.specs.Answer.{textOf}
 use Rattle.stream.specs.Run.{answers, printed}
-use Rattle.guarantees.specs.Runs.{Event, Events, byte, next, reply, Taken, ran, replies, replies-count, Allowed, Follows, carried, follows-is, follows-ran}
+use Rattle.guarantees.specs.Runs.{Event, Events, byte, next, reply, Taken, ran, replies, replies-count, Allowed, Follows, by-following, follows-is, follows-ran}
 use Rattle.judgements.specs.Asked.{key}
 use Rattle.guarantees.specs.Named.{Named, by-transfer, by-set-up, as-before, LastTransfer, Unmoved}
 use Rattle.guarantees.specs.Fit.{first-fit, ran-fit}
@@ -41,13 +41,13 @@ pub record Dispatched (run : Events) (m : Machine) (core : ℕ) (xs : List ℕ) 
   -- of these entries one alone covers the call's type and owner, and the ledger names its handler; or none does, and it names nobody
   pub one : One (only (covers (calledBy xs .fast) (calledBy xs .owner)) (entries first run)) says
   -- and that handler judges the call, or it is refused
-  pub judged : judgedIn (stateOf m) core xs ≡ found (sight (stateOf m) core .view) (argsOf (calledBy xs) xs) (key xs) says
+  pub judged : judgedIn (stateOf m) core xs ≡ found (sight (stateOf m) core .inner) (argsOf (calledBy xs) xs) (key xs) says
 
 -- ---- from the first line on: any run that keeps the promise of the step, whatever its lines
 module _ (run : Events) (m : Machine) (given : List Reply) (f : Follows first run m given) where
   -- All that is guaranteed of the machine and the answers holds.
   pub any-run : Guaranteed first run m given
-  any-run = carried (Guaranteed first run) f (guaranteed-after first first-fit run)
+  any-run = by-following (Guaranteed first run) f (guaranteed-after first first-fit run)
 
   module _ (e : Event) (last : Machine) (answer : Reply) (step : Allowed m e last answer) where
     -- Whatever line comes next is heeded.
@@ -95,7 +95,7 @@ module _ (lines : Events) (m : Machine) (told : List Reply) (set-up : Follows fi
     (steps : List Step) (last : Machine) (given : List Reply) (run : Follows m (map event steps) last given) where
   -- After any run of calls and arrivals, refused ones among them, all that is guaranteed holds.
   pub any-steps : Guaranteed m (map event steps) last given
-  any-steps = carried (Guaranteed m (map event steps)) run (rw (follows-is set-up .0) (guaranteed-after (ran first lines) (ran-fit lines) (map event steps)))
+  any-steps = by-following (Guaranteed m (map event steps)) run (rw (follows-is set-up .0) (guaranteed-after (ran first lines) (ran-fit lines) (map event steps)))
 
   -- The owner of a page is named by the last granted transfer of the page; if there was none, it is the owner whom the set-up left, and `any-run` says who that is.
   pub owner-since : (page : ℕ) → LastTransfer m (map event steps) page (ownerIn last page) ⊎ (Unmoved m (map event steps) page × (ownerIn last page ≡ ownerIn m page))

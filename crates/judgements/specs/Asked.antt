@@ -17,6 +17,8 @@ use Rattle.identifiers.specs.Identifier.{identifierOf, keyOf, admitted}
 use Rattle.ledger.specs.Ledger.{handler}
 use Rattle.ledger.specs.declared.Lookup.{Lookup}
 use Rattle.ledger.specs.declared.Lookup.the-variants.{Handler, Nobody}
+use Rattle.pages.specs.Window.{runOf}
+use Rattle.pages.specs.declared.Window.{Window}
 use Rattle.pages.specs.declared.Place.{Place}
 use Rattle.pages.specs.declared.Place.the-variants.{Page, Outside}
 use Rattle.ranges.specs.declared.Mapping.{Mapping}
@@ -24,25 +26,33 @@ use Rattle.mapping.specs.declared.Verdict.{Verdict}
 use Rattle.mapping.specs.declared.Verdict.the-variants as Verdict
 use Rattle.mapping.specs.declared.Lead.{Lead}
 use Rattle.mapping.specs.declared.Lead.the-variants as Lead
+use Rattle.transfers.specs.Transfer.{moveVerdict, severalVerdict}
+use Rattle.transfers.specs.Granted.{move-granted, several-granted}
 use Rattle.transfers.specs.declared.Verdict.{Verdict as Moving}
 use Rattle.transfers.specs.declared.Verdict.the-variants as Moving
 use Rattle.judgements.specs.Names.{secure, normal, realm, powerVersion, coreOff, coreStart, coreStartWide, coreState, coreStateWide, powerFeatures, granuleToRealm, granuleToNormal, realmFirst, realmLast, realmFinish, takePages, givePages, mapPages, unmapPages, secureFinish}
-use Rattle.judgements.specs.Judge.{View, Sight, denied, granted, tested, oneOf, callers, wanted, calledBy, argsOf, affirmed, featuring, architecture, starting, stating, stopping, versioning, powering, moving, granuleIn, granuleOut, taking, giving, owning, mapping, unmapping, leading, board, handing, finishing, ranged, realms, standard, trusted, byHandler, found, judgedBy, judged}
+use Rattle.judgements.specs.Judge.{HandlerSight, Sight, denied, granted, tested, oneOf, callers, wanted, calledBy, argsOf, affirmed, featuring, architecture, starting, tellingState, goingOff, versioning, powerFeaturing, moving, granuleIn, granuleOut, taking, giving, owning, mapping, unmapping, leading, board, handing, finishing, handingToRealm, realmCall, standard, trusted, byHandler, found, judgedBy, judged}
 use Rattle.judgements.specs.declared.Answer.{Answer}
 use Rattle.judgements.specs.declared.Answer.the-variants as Answer
 use Rattle.judgements.specs.declared.Deed.{Deed}
-use Rattle.judgements.specs.declared.Deed.the-variants.{Nothing, Move, Map, Unmap, Start, Stop, HandOver, Finish}
+use Rattle.judgements.specs.declared.Deed.the-variants.{Nothing, Move, Map, Unmap, Start, GoOff, HandOver, Finish}
 use Rattle.judgements.specs.declared.Judged.{Judged}
 use Rattle.judgements.specs.declared.Args.{Args}
-use Rattle.judgements.specs.declared.Seen.{Seen}
+use Rattle.judgements.specs.declared.Caller.{Caller}
 
 -- ---- what a call asks for, by the handler that it reaches and its identifier
 -- a transfer: the start, the number of pages, and the world that takes them
-pub data Asks (v : Seen) (a : Args) : ℕ → ℕ → ℕ → ℕ → ℕ → Type 0 where
+pub data Asks (v : Caller) (a : Args) : ℕ → ℕ → ℕ → ℕ → ℕ → Type 0 where
   page-in : Asks v a 2 granuleToRealm (a .x1) 1 realm
   page-out : Asks v a 2 granuleToNormal (a .x1) 1 normal
-  pages-in : Asks v a 1 takePages (a .x1) (a .x2) (v .caller)
+  pages-in : Asks v a 1 takePages (a .x1) (a .x2) (v .world)
   pages-out : Asks v a 1 givePages (a .x1) (a .x2) normal
+
+-- such a transfer of the run from this page on
+pub record AsksAt (v : Caller) (a : Args) (h key first count to : ℕ) : Type 0 where
+  pub start : ℕ
+  pub asks : Asks v a h key start count to
+  pub lies : runOf (v .window) start count ≡ Page first
 
 -- a hand-over to a world
 pub data HandsTo : ℕ → ℕ → ℕ → Type 0 where
@@ -55,25 +65,36 @@ pub data Finishes : ℕ → ℕ → ℕ → Type 0 where
   by-realm : Finishes 2 realmFinish realm
 
 -- what is done, and how it is answered, is what such a call asks for
-abbrev pub CalledFor : Seen → Args → ℕ → ℕ → Deed → Answer → Type 0
+abbrev pub CalledFor : Caller → Args → ℕ → ℕ → Deed → Answer → Type 0
 CalledFor v a h key Nothing r = Unit {0}
-CalledFor v a h key (Move start count to) r = Asks v a h key start count to × (r ≡ Answer.Done)
+CalledFor v a h key (Move first count to) r = AsksAt v a h key first count to × (r ≡ Answer.Done)
 CalledFor v a h key (Map m) r = ((h ≡ 1) × (key ≡ mapPages)) × ((m ≡ wanted a) × (r ≡ Answer.Done))
 CalledFor v a h key (Unmap virt size) r = ((h ≡ 1) × (key ≡ unmapPages)) × (((virt ≡ a .x1) × (size ≡ a .x2)) × (r ≡ Answer.Done))
 CalledFor v a h key (Start core start context) r = ((h ≡ 2) × ((key ≡ coreStart) ⊎ (key ≡ coreStartWide))) × (((core ≡ a .x1) × ((start ≡ a .x2) × (context ≡ a .x3))) × (r ≡ Answer.Done))
-CalledFor v a h key Stop r = ((h ≡ 2) × (key ≡ coreOff)) × (r ≡ Answer.Silent)
+CalledFor v a h key GoOff r = ((h ≡ 2) × (key ≡ coreOff)) × (r ≡ Answer.Silent)
 CalledFor v a h key (HandOver to) r = HandsTo h key to × (r ≡ Answer.Silent)
-CalledFor v a h key Finish r = Finishes h key (v .caller) × (r ≡ Answer.Silent)
+CalledFor v a h key Finish r = Finishes h key (v .world) × (r ≡ Answer.Silent)
 
 -- by what the ledger says of the call
-abbrev pub Served : Seen → Args → ℕ → Lookup → Deed → Answer → Type 0
+abbrev pub Served : Caller → Args → ℕ → Lookup → Deed → Answer → Type 0
 Served v a key Nobody d r = d ≡ Nothing
 Served v a key (Handler h) d r = CalledFor v a h key d r
 
+-- ---- where the run of a granted transfer lies
+abbrev Lies : Window → Moving → ℕ → ℕ → Type 0
+Lies w v start count = (first : ℕ) → v ≡ Moving.Granted first → runOf w start count ≡ Page first
+
+module _ (w : Window) (o : List ℕ) (list : List Mapping) (from start count : ℕ) where
+  lies : Lies w (moveVerdict w o list from start count) start count
+  lies first g = move-granted w o list from start count first g .lies
+
+  several-lies : Lies w (severalVerdict w o list from start count) start count
+  several-lies first g = lies first (several-granted w o list from start count first g .0)
+
 -- ---- each call
-module _ (s : View) (a : Args) (h key : ℕ) where
+module _ (s : HandlerSight) (a : Args) (h key : ℕ) where
   abbrev For : Judged → Type 0
-  For j = CalledFor (s .seen) a h key (j .deed) (j .answer)
+  For j = CalledFor (s .caller) a h key (j .deed) (j .answer)
 
   testing : (ts : List (Test Reason)) (j : Judged) → (Clear ts → For j) → For (tested ts j)
   testing ts j f = sieved For denied ts j (λ r. tt) f
@@ -87,10 +108,10 @@ module _ (s : View) (a : Args) (h key : ℕ) where
   architectures =
       chosen For _ _ _ (λ e. tt) (λ e. chosen For _ _ _ (λ f. affirming _) (λ f. tt))
 
-  transfers : (v : Moving) (start count to : ℕ) → Asks (s .seen) a h key start count to → For (moving v start count to)
+  transfers : (v : Moving) (start count to : ℕ) → Lies (s .caller .window) v start count → Asks (s .caller) a h key start count to → For (moving v count to)
   unfolding moving
-  transfers Moving.Granted start count to k = (k, refl)
-  transfers (Moving.No r) start count to k = tt
+  transfers (Moving.Granted first) start count to l k = (record { start = start; asks = k; lies = l first refl }, refl)
+  transfers (Moving.No r) start count to l k = tt
 
   questions : (o : List ℕ) (p : Place) (world : ℕ) → For (owning o p world)
   unfolding owning
@@ -102,13 +123,13 @@ module _ (s : View) (a : Args) (h key : ℕ) where
   leads (Lead.To phys attr) = tt
   leads Lead.Nowhere = tt
 
-  hands : (to : ℕ) → HandsTo h key to → For (handing to (s .seen))
+  hands : (to : ℕ) → HandsTo h key to → For (handing to (s .caller))
   unfolding handing
   hands to k = testing _ _ (λ c. (k, refl))
 
-  finishes : (from : ℕ) → Finishes h key from → For (finishing from (s .seen))
+  finishes : (from : ℕ) → Finishes h key from → For (finishing from (s .caller))
   unfolding finishing Clear
-  finishes from k = testing _ _ (λ c. (subst (λ (w : ℕ). Finishes h key w) (sym (eqb-true (s .seen .caller) from (not-false _ (c .0)))) k, refl))
+  finishes from k = testing _ _ (λ c. (subst (λ (w : ℕ). Finishes h key w) (sym (eqb-true (s .caller .world) from (not-false _ (c .0)))) k, refl))
 
   module _ (is : h ≡ 1) where
     mappings : (v : Verdict) → key ≡ mapPages → For (mapping v (wanted a))
@@ -120,8 +141,8 @@ module _ (s : View) (a : Args) (h key : ℕ) where
     boards : For (board s a key)
     unfolding board taking giving unmapping
     boards =
-        chosen For _ _ _ (λ e. testing _ _ (λ c. transfers _ (a .x1) (a .x2) (s .seen .caller) (rw (is, eqb-true key takePages e) pages-in)))
-        (λ e. chosen For _ _ _ (λ e. testing _ _ (λ c. transfers _ (a .x1) (a .x2) normal (rw (is, eqb-true key givePages e) pages-out)))
+        chosen For _ _ _ (λ e. testing _ _ (λ c. transfers _ (a .x1) (a .x2) (s .caller .world) (several-lies _ _ _ _ _ _) (rw (is, eqb-true key takePages e) pages-in)))
+        (λ e. chosen For _ _ _ (λ e. testing _ _ (λ c. transfers _ (a .x1) (a .x2) normal (several-lies _ _ _ _ _ _) (rw (is, eqb-true key givePages e) pages-out)))
         (λ e. chosen For _ _ _ (λ e. questions _ _ _)
         (λ e. chosen For _ _ _ (λ e. mappings _ (eqb-true key mapPages e))
         (λ e. chosen For _ _ _ (λ e. testing _ _ (λ c. ((is, eqb-true key unmapPages e), ((refl, refl), refl))))
@@ -130,24 +151,24 @@ module _ (s : View) (a : Args) (h key : ℕ) where
         (λ e. tt)))))))
 
   module _ (is : h ≡ 2) where
-    starts : (key ≡ coreStart) ⊎ (key ≡ coreStartWide) → For (starting (s .seen) (s .powers) (s .owners) a)
+    starts : (key ≡ coreStart) ⊎ (key ≡ coreStartWide) → For (starting (s .caller) (s .powers) (s .owners) a)
     unfolding starting
     starts k = testing _ _ (λ c. ((is, k), ((refl, (refl, refl)), refl)))
 
-    range : For (ranged (s .seen) key)
-    unfolding ranged Clear
+    range : For (handingToRealm (s .caller) key)
+    unfolding handingToRealm Clear
     range = testing _ _ (λ c. hands realm (rw is (to-realm key (ltb-false key realmFirst (c .0)) (ltb-false realmLast key (c .1 .0)))))
 
-    realm-calls : For (realms (s .seen) (s .owners) (s .own) (s .theirs) a key)
-    unfolding realms granuleIn granuleOut
+    realm-calls : For (realmCall (s .caller) (s .owners) (s .own) (s .theirs) a key)
+    unfolding realmCall granuleIn granuleOut
     realm-calls =
-        chosen For _ _ _ (λ e. testing _ _ (λ c. transfers _ (a .x1) 1 realm (rw (is, eqb-true key granuleToRealm e) page-in)))
-        (λ e. chosen For _ _ _ (λ e. testing _ _ (λ c. transfers _ (a .x1) 1 normal (rw (is, eqb-true key granuleToNormal e) page-out)))
+        chosen For _ _ _ (λ e. testing _ _ (λ c. transfers _ (a .x1) 1 realm (lies _ _ _ _ _ _) (rw (is, eqb-true key granuleToRealm e) page-in)))
+        (λ e. chosen For _ _ _ (λ e. testing _ _ (λ c. transfers _ (a .x1) 1 normal (lies _ _ _ _ _ _) (rw (is, eqb-true key granuleToNormal e) page-out)))
         (λ e. chosen For _ _ _ (λ e. finishes realm (rw (is, eqb-true key realmFinish e) by-realm))
         (λ e. range)))
 
     standards : For (standard s a key)
-    unfolding standard versioning stopping stating powering
+    unfolding standard versioning goingOff tellingState powerFeaturing
     standards =
         chosen For _ _ _ (λ e. testing _ _ (λ c. tt))
         (λ e. chosen For _ _ _ (λ e. testing _ _ (λ c. ((is, eqb-true key coreOff e), refl)))
@@ -158,7 +179,7 @@ module _ (s : View) (a : Args) (h key : ℕ) where
         (λ e. chosen For _ _ _ (λ e. testing _ _ (λ c. affirming _))
         (λ e. realm-calls)))))))
 
-  trust : h ≡ 3 → For (trusted (s .seen) key)
+  trust : h ≡ 3 → For (trusted (s .caller) key)
   unfolding trusted
   trust is =
       chosen For _ _ _ (λ e. finishes secure (rw (is, eqb-true key secureFinish e) by-secure))
@@ -179,26 +200,32 @@ abbrev pub key : List ℕ → ℕ
 key xs = keyOf (identifierOf (getD xs 0 0))
 
 -- Nothing is done but what the call asks for.
-pub called-for : (s : Sight) (xs : List ℕ) → Served (s .view .seen) (argsOf (calledBy xs) xs) (key xs) (handler (s .ledger) (calledBy xs .fast) (calledBy xs .owner)) (judged s xs .deed) (judged s xs .answer)
+pub called-for : (s : Sight) (xs : List ℕ) → Served (s .inner .caller) (argsOf (calledBy xs) xs) (key xs) (handler (s .ledger) (calledBy xs .fast) (calledBy xs .owner)) (judged s xs .deed) (judged s xs .answer)
 unfolding judged judgedBy found
 called-for s xs =
-    sieved (λ (j : Judged). Served (s .view .seen) (argsOf (calledBy xs) xs) (key xs) l (j .deed) (j .answer)) denied _ _ (λ r. none l (Answer.No r)) (λ c. some l)
+    sieved (λ (j : Judged). Served (s .inner .caller) (argsOf (calledBy xs) xs) (key xs) l (j .deed) (j .answer)) denied _ _ (λ r. none l (Answer.No r)) (λ c. some l)
   where
     l : Lookup
     l = handler (s .ledger) (calledBy xs .fast) (calledBy xs .owner)
 
-    none : (k : Lookup) (r : Answer) → Served (s .view .seen) (argsOf (calledBy xs) xs) (key xs) k Nothing r
+    none : (k : Lookup) (r : Answer) → Served (s .inner .caller) (argsOf (calledBy xs) xs) (key xs) k Nothing r
     none Nobody r = refl
     none (Handler h) r = tt
 
-    some : (k : Lookup) → Served (s .view .seen) (argsOf (calledBy xs) xs) (key xs) k (found (s .view) (argsOf (calledBy xs) xs) (key xs) k .deed) (found (s .view) (argsOf (calledBy xs) xs) (key xs) k .answer)
+    some : (k : Lookup) → Served (s .inner .caller) (argsOf (calledBy xs) xs) (key xs) k (found (s .inner) (argsOf (calledBy xs) xs) (key xs) k .deed) (found (s .inner) (argsOf (calledBy xs) xs) (key xs) k .answer)
     some Nobody = refl
-    some (Handler h) = handlers (s .view) (argsOf (calledBy xs) xs) h (key xs)
+    some (Handler h) = handlers (s .inner) (argsOf (calledBy xs) xs) h (key xs)
 
 -- ---- and a transfer that is answered 0 is done
-module _ (start count to : ℕ) where
+-- a deed moves the run that lies there
+pub record MovesRun (w : Window) (start count to : ℕ) (d : Deed) : Type 0 where
+  pub first : ℕ
+  pub lies : runOf w start count ≡ Page first
+  pub moves : d ≡ Move first count to
+
+module _ (w : Window) (start count to : ℕ) where
   abbrev Does : Judged → Type 0
-  Does j = j .answer ≡ Answer.Done → j .deed ≡ Move start count to
+  Does j = j .answer ≡ Answer.Done → MovesRun w start count to (j .deed)
 
   denied-does : (r : Reason) → Does (denied r)
   denied-does r e = let z : _≡_ {A = ℕ} 0 1 = cc in absurd (omega arith)
@@ -206,35 +233,35 @@ module _ (start count to : ℕ) where
   tested-does : (ts : List (Test Reason)) (j : Judged) → Does j → Does (tested ts j)
   tested-does ts j d = sieved Does denied ts j denied-does (λ c. d)
 
-  moving-does : (v : Moving) → Does (moving v start count to)
+  moving-does : (v : Moving) → Lies w v start count → Does (moving v count to)
   unfolding moving
-  moving-does Moving.Granted e = refl
-  moving-does (Moving.No r) e = denied-does r e
+  moving-does (Moving.Granted first) l e = record { first = first; lies = l first refl; moves = refl }
+  moving-does (Moving.No r) l e = denied-does r e
 
-asks-does : (s : View) (a : Args) {h k start count to : ℕ} → Asks (s .seen) a h k start count to → Does start count to (byHandler s a k h)
-unfolding byHandler standard realms granuleIn granuleOut board taking giving pick
-asks-does s a page-in = tested-does _ _ _ _ _ (moving-does _ _ _ _)
-asks-does s a page-out = tested-does _ _ _ _ _ (moving-does _ _ _ _)
-asks-does s a pages-in = tested-does _ _ _ _ _ (moving-does _ _ _ _)
-asks-does s a pages-out = tested-does _ _ _ _ _ (moving-does _ _ _ _)
+asks-does : (s : HandlerSight) (a : Args) {h k start count to : ℕ} → Asks (s .caller) a h k start count to → Does (s .caller .window) start count to (byHandler s a k h)
+unfolding byHandler standard realmCall granuleIn granuleOut board taking giving pick
+asks-does s a page-in = tested-does _ _ _ _ _ _ (moving-does _ _ _ _ _ (lies _ _ _ _ _ _))
+asks-does s a page-out = tested-does _ _ _ _ _ _ (moving-does _ _ _ _ _ (lies _ _ _ _ _ _))
+asks-does s a pages-in = tested-does _ _ _ _ _ _ (moving-does _ _ _ _ _ (several-lies _ _ _ _ _ _))
+asks-does s a pages-out = tested-does _ _ _ _ _ _ (moving-does _ _ _ _ _ (several-lies _ _ _ _ _ _))
 
 -- A call that asks for a transfer and is answered 0 has it done.
 pub asked-done : (s : Sight) (xs : List ℕ) (h start count to : ℕ) → handler (s .ledger) (calledBy xs .fast) (calledBy xs .owner) ≡ Handler h
-    → Asks (s .view .seen) (argsOf (calledBy xs) xs) h (key xs) start count to → judged s xs .answer ≡ Answer.Done → judged s xs .deed ≡ Move start count to
+    → Asks (s .inner .caller) (argsOf (calledBy xs) xs) h (key xs) start count to → judged s xs .answer ≡ Answer.Done → MovesRun (s .inner .caller .window) start count to (judged s xs .deed)
 unfolding judged judgedBy found
-asked-done s xs h start count to l k = tested-does start count to _ _ (rw l (asks-does (s .view) (argsOf (calledBy xs) xs) k))
+asked-done s xs h start count to l k = tested-does _ start count to _ _ (rw l (asks-does (s .inner) (argsOf (calledBy xs) xs) k))
 
 -- ---- a transfer, by what was asked and answered
 -- A call reaches a handler that knows it as a transfer of these pages, and is answered 0.
 pub record Granted (s : Sight) (xs : List ℕ) (start count to : ℕ) : Type 0 where
   pub number : ℕ
   pub reached : handler (s .ledger) (calledBy xs .fast) (calledBy xs .owner) ≡ Handler number
-  pub asks : Asks (s .view .seen) (argsOf (calledBy xs) xs) number (key xs) start count to
+  pub asks : Asks (s .inner .caller) (argsOf (calledBy xs) xs) number (key xs) start count to
   pub answered : judged s xs .answer ≡ Answer.Done
 
 module _ (s : Sight) (xs : List ℕ) (start count to : ℕ) where
   -- It is done.
-  pub granted-moves : Granted s xs start count to → judged s xs .deed ≡ Move start count to
+  pub granted-moves : Granted s xs start count to → MovesRun (s .inner .caller .window) start count to (judged s xs .deed)
   granted-moves g = asked-done s xs (g .number) start count to (g .reached) (g .asks) (g .answered)
 
 -- ---- a hand-over and a finish, by what was asked
@@ -246,11 +273,11 @@ pub record Reached (s : Sight) (xs : List ℕ) (P : ℕ → Type 0) : Type 0 whe
 
 module _ (s : Sight) (xs : List ℕ) where
   -- what is done is what a handler knows the call as
-  deed-asked : (d : Deed) → (d ≡ Nothing → ⊥) → judged s xs .deed ≡ d → Reached s xs (λ h. CalledFor (s .view .seen) (argsOf (calledBy xs) xs) h (key xs) d (judged s xs .answer))
+  deed-asked : (d : Deed) → (d ≡ Nothing → ⊥) → judged s xs .deed ≡ d → Reached s xs (λ h. CalledFor (s .inner .caller) (argsOf (calledBy xs) xs) h (key xs) d (judged s xs .answer))
   deed-asked d n e = known (handler (s .ledger) (calledBy xs .fast) (calledBy xs .owner)) refl (rw e at (called-for s xs))
     where
       known : (l : Lookup) → handler (s .ledger) (calledBy xs .fast) (calledBy xs .owner) ≡ l
-          → Served (s .view .seen) (argsOf (calledBy xs) xs) (key xs) l d (judged s xs .answer) → Reached s xs (λ h. CalledFor (s .view .seen) (argsOf (calledBy xs) xs) h (key xs) d (judged s xs .answer))
+          → Served (s .inner .caller) (argsOf (calledBy xs) xs) (key xs) l d (judged s xs .answer) → Reached s xs (λ h. CalledFor (s .inner .caller) (argsOf (calledBy xs) xs) h (key xs) d (judged s xs .answer))
       known Nobody k f = absurd (n f)
       known (Handler h) k f = record { number = h; reached = k; so = f }
 
@@ -260,20 +287,26 @@ module _ (s : Sight) (xs : List ℕ) where
       let r = deed-asked (HandOver to) (λ k. let z : _≡_ {A = ℕ} 0 1 = cc in omega arith) e in record { number = r .number; reached = r .reached; so = r .so .0 }
 
   -- A finish was asked for.
-  pub finish-asked : judged s xs .deed ≡ Finish → Reached s xs (λ h. Finishes h (key xs) (s .view .seen .caller))
+  pub finish-asked : judged s xs .deed ≡ Finish → Reached s xs (λ h. Finishes h (key xs) (s .inner .caller .world))
   finish-asked e =
       let r = deed-asked Finish (λ k. let z : _≡_ {A = ℕ} 0 1 = cc in omega arith) e in record { number = r .number; reached = r .reached; so = r .so .0 }
 
--- No transfer is done but a granted one.
-pub moves-granted : (s : Sight) (xs : List ℕ) (start count to : ℕ) → judged s xs .deed ≡ Move start count to → Granted s xs start count to
-moves-granted s xs start count to e =
-    let r = deed-asked s xs (Move start count to) (λ k. let z : _≡_ {A = ℕ} 0 1 = cc in omega arith) e in
-    record { number = r .number; reached = r .reached; asks = r .so .0; answered = r .so .1 }
+-- No transfer is done but a granted one, of the run that lies there.
+pub record GrantedAt (s : Sight) (xs : List ℕ) (first count to : ℕ) : Type 0 where
+  pub start : ℕ
+  pub granted : Granted s xs start count to
+  pub lies : runOf (s .inner .caller .window) start count ≡ Page first
+
+pub moves-granted : (s : Sight) (xs : List ℕ) (first count to : ℕ) → judged s xs .deed ≡ Move first count to → GrantedAt s xs first count to
+moves-granted s xs first count to e =
+    let r = deed-asked s xs (Move first count to) (λ k. let z : _≡_ {A = ℕ} 0 1 = cc in omega arith) e in
+    let k = r .so .0 in
+    record { start = k .start; granted = record { number = r .number; reached = r .reached; asks = k .asks; answered = r .so .1 }; lies = k .lies }
 
 -- ---- and a hand-over or a finish that is asked for is done
-module _ (s : View) (a : Args) where
-  hands-done : (h k to : ℕ) → s .seen .caller ≡ normal → HandsTo h k to → byHandler s a k h .deed ≡ HandOver to
-  unfolding byHandler standard realms ranged trusted handing sieve pick
+module _ (s : HandlerSight) (a : Args) where
+  hands-done : (h k to : ℕ) → s .caller .world ≡ normal → HandsTo h k to → byHandler s a k h .deed ≡ HandOver to
+  unfolding byHandler standard realmCall handingToRealm trusted handing sieve pick
   hands-done h k to e (to-secure key n) = rw (ne-eqb key secureFinish n, e)
   hands-done h k to e (to-realm key low high) =
       rw (
@@ -292,27 +325,27 @@ module _ (s : View) (a : Args) where
         e,
       )
 
-  finishes-done : (h k w : ℕ) → s .seen .caller ≡ w → s .seen .is_open ≡ true → Finishes h k w → byHandler s a k h .deed ≡ Finish
-  unfolding byHandler standard realms trusted finishing sieve pick
+  finishes-done : (h k w : ℕ) → s .caller .world ≡ w → s .caller .is_open ≡ true → Finishes h k w → byHandler s a k h .deed ≡ Finish
+  unfolding byHandler standard realmCall trusted finishing sieve pick
   finishes-done h k w e o by-secure = rw (e, o)
   finishes-done h k w e o by-realm = rw (e, o)
 
 -- a call from a world that may call, whose bits 23 to 16 pass the test, is judged by the handler of its type and owner, and refused where there is none
-pub judged-found : (s : Sight) (xs : List ℕ) → oneOf (s .view .seen .caller) callers ≡ true → admitted (calledBy xs) ≡ true
-    → judged s xs ≡ found (s .view) (argsOf (calledBy xs) xs) (key xs) (handler (s .ledger) (calledBy xs .fast) (calledBy xs .owner))
+pub judged-found : (s : Sight) (xs : List ℕ) → oneOf (s .inner .caller .world) callers ≡ true → admitted (calledBy xs) ≡ true
+    → judged s xs ≡ found (s .inner) (argsOf (calledBy xs) xs) (key xs) (handler (s .ledger) (calledBy xs .fast) (calledBy xs .owner))
 unfolding judged judgedBy
 judged-found s xs c ok = sym (goes _ _ _ _ _ _ (Choice.not-false _ c) (goes _ _ _ _ _ _ (Choice.not-false _ ok) (ends _ _ _ refl)))
 
-module _ (s : Sight) (xs : List ℕ) (may : oneOf (s .view .seen .caller) callers ≡ true) (ok : admitted (calledBy xs) ≡ true) where
-  found-at : (h : ℕ) → handler (s .ledger) (calledBy xs .fast) (calledBy xs .owner) ≡ Handler h → judged s xs ≡ byHandler (s .view) (argsOf (calledBy xs) xs) (key xs) h
+module _ (s : Sight) (xs : List ℕ) (may : oneOf (s .inner .caller .world) callers ≡ true) (ok : admitted (calledBy xs) ≡ true) where
+  found-at : (h : ℕ) → handler (s .ledger) (calledBy xs .fast) (calledBy xs .owner) ≡ Handler h → judged s xs ≡ byHandler (s .inner) (argsOf (calledBy xs) xs) (key xs) h
   unfolding found
   found-at h l = judged-found s xs may ok ∙ rw l
 
   -- A hand-over that Normal asks for is done.
-  pub asked-hand-over : (to : ℕ) → s .view .seen .caller ≡ normal → Reached s xs (λ h. HandsTo h (key xs) to) → judged s xs .deed ≡ HandOver to
-  asked-hand-over to e r = ap (λ (j : Judged). j .deed) (found-at (r .number) (r .reached)) ∙ hands-done (s .view) (argsOf (calledBy xs) xs) (r .number) (key xs) to e (r .so)
+  pub asked-hand-over : (to : ℕ) → s .inner .caller .world ≡ normal → Reached s xs (λ h. HandsTo h (key xs) to) → judged s xs .deed ≡ HandOver to
+  asked-hand-over to e r = ap (λ (j : Judged). j .deed) (found-at (r .number) (r .reached)) ∙ hands-done (s .inner) (argsOf (calledBy xs) xs) (r .number) (key xs) to e (r .so)
 
   -- A finish that is asked for while a hand-over is open is done.
-  pub asked-finish : s .view .seen .is_open ≡ true → Reached s xs (λ h. Finishes h (key xs) (s .view .seen .caller)) → judged s xs .deed ≡ Finish
+  pub asked-finish : s .inner .caller .is_open ≡ true → Reached s xs (λ h. Finishes h (key xs) (s .inner .caller .world)) → judged s xs .deed ≡ Finish
   asked-finish o r =
-      ap (λ (j : Judged). j .deed) (found-at (r .number) (r .reached)) ∙ finishes-done (s .view) (argsOf (calledBy xs) xs) (r .number) (key xs) (s .view .seen .caller) refl o (r .so)
+      ap (λ (j : Judged). j .deed) (found-at (r .number) (r .reached)) ∙ finishes-done (s .inner) (argsOf (calledBy xs) xs) (r .number) (key xs) (s .inner .caller .world) refl o (r .so)

@@ -24,17 +24,17 @@ use Rattle.mapping.specs.declared.Verdict.the-variants as Verdict
 use Rattle.mapping.specs.declared.Lead.{Lead}
 use Rattle.mapping.specs.declared.Lead.the-variants as Lead
 use Rattle.transfers.specs.Transfer.{moveVerdict, severalVerdict}
-use Rattle.transfers.specs.Kept.{several-granted}
+use Rattle.transfers.specs.Granted.{several-granted}
 use Rattle.transfers.specs.declared.Verdict.{Verdict as Moving}
 use Rattle.transfers.specs.declared.Verdict.the-variants as Moving
 use Rattle.judgements.specs.Names.{secure, normal, realm}
 use Rattle.judgements.specs.declared.Answer.{Answer}
 use Rattle.judgements.specs.declared.Answer.the-variants as Answer
 use Rattle.judgements.specs.declared.Deed.{Deed}
-use Rattle.judgements.specs.declared.Deed.the-variants.{Nothing, Move, Map, Unmap, Start, Stop, HandOver, Finish}
+use Rattle.judgements.specs.declared.Deed.the-variants.{Nothing, Move, Map, Unmap, Start, GoOff, HandOver, Finish}
 use Rattle.judgements.specs.declared.Judged.{Judged}
 use Rattle.judgements.specs.declared.Args.{Args}
-use Rattle.judgements.specs.Judge.{View, Sight, denied, granted, tested, oneOf, takers, callers, goodStart, wanted, affirmed, featuring, architecture, starting, stating, stopping, versioning, powering, moving, granuleIn, granuleOut, taking, giving, owning, mapping, unmapping, leading, board, handing, finishing, ranged, realms, standard, trusted, byHandler, found, judgedBy, judged}
+use Rattle.judgements.specs.Judge.{HandlerSight, Sight, denied, granted, tested, oneOf, takers, callers, goodStart, wanted, affirmed, featuring, architecture, starting, tellingState, goingOff, versioning, powerFeaturing, moving, granuleIn, granuleOut, taking, giving, owning, mapping, unmapping, leading, board, handing, finishing, handingToRealm, realmCall, standard, trusted, byHandler, found, judgedBy, judged}
 
 -- Secure or Realm
 abbrev pub Takes : ℕ → Type 0
@@ -45,55 +45,56 @@ abbrev pub Calls : ℕ → Type 0
 Calls world = (world ≡ normal) ⊎ Takes world
 
 -- a transfer's giver and taker: Normal and the caller, or the caller and Normal, with the giver's list
-pub data Between (s : View) : ℕ → ℕ → List Mapping → Type 0 where
-  toCaller : Between s normal (s .seen .caller) (s .theirs)
-  toNormal : Between s (s .seen .caller) normal (s .own)
+pub data Between (s : HandlerSight) : ℕ → ℕ → List Mapping → Type 0 where
+  toCaller : Between s normal (s .caller .world) (s .theirs)
+  toNormal : Between s (s .caller .world) normal (s .own)
 
 -- a page transfer that is granted
-pub record Moves (s : View) (start count to : ℕ) : Type 0 where
+pub record Moves (s : HandlerSight) (first count to : ℕ) : Type 0 where
+  pub start : ℕ
   pub from : ℕ
   pub list : List Mapping
   pub between : Between s from to list
   pub some : 0 < count
-  pub caller : Takes (s .seen .caller)
-  pub verdict : moveVerdict (s .seen .window) (s .owners) list from start count ≡ Moving.Granted
+  pub caller : Takes (s .caller .world)
+  pub verdict : moveVerdict (s .caller .window) (s .owners) list from start count ≡ Moving.Granted first
 
 -- a mapping that is granted
-pub record Maps (s : View) (m : Mapping) : Type 0 where
-  pub caller : Calls (s .seen .caller)
-  pub verdict : mapVerdict (s .own) (s .owners) (s .seen .window) (s .seen .caller) m ≡ Verdict.Granted
+pub record Maps (s : HandlerSight) (m : Mapping) : Type 0 where
+  pub caller : Calls (s .caller .world)
+  pub verdict : mapVerdict (s .own) (s .owners) (s .caller .window) (s .caller .world) m ≡ Verdict.Granted
 
 -- a mapping of this start and size that the caller holds
-pub record Unmaps (s : View) (virt size : ℕ) : Type 0 where
-  pub caller : Calls (s .seen .caller)
+pub record Unmaps (s : HandlerSight) (virt size : ℕ) : Type 0 where
+  pub caller : Calls (s .caller .world)
   pub holds : hasExactly (s .own) virt size ≡ true
 
 -- a core of the board that is OFF, and an address to start it at
-pub record Starts (s : View) (core start : ℕ) : Type 0 where
-  pub caller : s .seen .caller ≡ normal
-  pub exists : core < s .seen .cores
-  pub good : goodStart (s .seen .window) (s .owners) start ≡ true
+pub record Starts (s : HandlerSight) (core start : ℕ) : Type 0 where
+  pub caller : s .caller .world ≡ normal
+  pub exists : core < s .caller .cores
+  pub good : goodStart (s .caller .window) (s .owners) start ≡ true
   pub not-on : isOn (power (s .powers) core) ≡ false
   pub not-pending : isPending (power (s .powers) core) ≡ false
 
 -- what each deed stands on
-abbrev pub Grounds : View → Deed → Type 0
+abbrev pub Grounds : HandlerSight → Deed → Type 0
 Grounds s Nothing = Unit {0}
-Grounds s (Move start count to) = Moves s start count to
+Grounds s (Move first count to) = Moves s first count to
 Grounds s (Map m) = Maps s m
 Grounds s (Unmap virt size) = Unmaps s virt size
 Grounds s (Start core start context) = Starts s core start
-Grounds s Stop = s .seen .caller ≡ normal
-Grounds s (HandOver to) = (s .seen .caller ≡ normal) × Takes to
-Grounds s Finish = Takes (s .seen .caller) × (s .seen .is_open ≡ true)
+Grounds s GoOff = s .caller .world ≡ normal
+Grounds s (HandOver to) = (s .caller .world ≡ normal) × Takes to
+Grounds s Finish = Takes (s .caller .world) × (s .caller .is_open ≡ true)
 
 -- a refusal does nothing, and what is done has its grounds
-pub record Grounded (s : View) (j : Judged) : Type 0 where
+pub record Grounded (s : HandlerSight) (j : Judged) : Type 0 where
   pub quiet : (r : Reason) → j .answer ≡ Answer.No r → j .deed ≡ Nothing
   pub stands : Grounds s (j .deed)
 
 -- ---- the plain outcomes
-module _ (s : View) where
+module _ (s : HandlerSight) where
   refusing : (r : Reason) → Grounded s (denied r)
   refusing r = record { quiet = λ q e. refl; stands = tt }
 
@@ -130,7 +131,7 @@ is-caller w e =
     (λ k. let z : not (eqb w secure || (eqb w normal || (eqb w realm || false))) ≡ true = rw (m, n, k) in absurd (yes-or-no _ z e))))
 
 -- ---- each call
-module _ (s : View) (a : Args) where
+module _ (s : HandlerSight) (a : Args) where
   affirming : (b : Bool) → Grounded s (affirmed b)
   unfolding affirmed
   affirming b = chosen (Grounded s) b _ _ (λ e. answering s Answer.Done) (λ e. refusing s Reason.Unserved)
@@ -141,65 +142,65 @@ module _ (s : View) (a : Args) where
       chosen (Grounded s) _ _ _ (λ e. answering s Answer.Version)
       (λ e. chosen (Grounded s) _ _ _ (λ f. affirming _) (λ f. refusing s Reason.Unserved))
 
-  starts : Grounded s (starting (s .seen) (s .powers) (s .owners) a)
+  starts : Grounded s (starting (s .caller) (s .powers) (s .owners) a)
   unfolding starting Clear
   starts =
       testing s _ _ (λ c. doing s (Start (a .x1) (a .x2) (a .x3)) (record {
-        caller = is-world (s .seen .caller) normal (c .0);
-        exists = leb-false (s .seen .cores) (a .x1) (c .1 .0);
+        caller = is-world (s .caller .world) normal (c .0);
+        exists = leb-false (s .caller .cores) (a .x1) (c .1 .0);
         good = not-false _ (c .1 .1 .0);
         not-on = c .1 .1 .1 .0;
         not-pending = c .1 .1 .1 .1 .0;
       }))
 
-  states : Grounded s (stating (s .seen) (s .powers) a)
-  unfolding stating
+  states : Grounded s (tellingState (s .caller) (s .powers) a)
+  unfolding tellingState
   states = testing s _ _ (λ c. answering s _)
 
-  stops : Grounded s (stopping (s .seen))
-  unfolding stopping Clear
-  stops = testing s _ _ (λ c. passing s Stop (is-world (s .seen .caller) normal (c .0)))
+  goes-off : Grounded s (goingOff (s .caller))
+  unfolding goingOff Clear
+  goes-off = testing s _ _ (λ c. passing s GoOff (is-world (s .caller .world) normal (c .0)))
 
-  versions : Grounded s (versioning (s .seen))
+  versions : Grounded s (versioning (s .caller))
   unfolding versioning
   versions = testing s _ _ (λ c. answering s _)
 
-  powers : Grounded s (powering (s .seen) a)
-  unfolding powering
+  powers : Grounded s (powerFeaturing (s .caller) a)
+  unfolding powerFeaturing
   powers = testing s _ _ (λ c. affirming _)
 
-  transfers : (v : Moving) (start count to : ℕ) → (v ≡ Moving.Granted → Moves s start count to) → Grounded s (moving v start count to)
+  transfers : (v : Moving) (count to : ℕ) → ((first : ℕ) → v ≡ Moving.Granted first → Moves s first count to) → Grounded s (moving v count to)
   unfolding moving
-  transfers Moving.Granted start count to g = doing s (Move start count to) (g refl)
-  transfers (Moving.No r) start count to g = refusing s r
+  transfers (Moving.Granted first) count to g = doing s (Move first count to) (g first refl)
+  transfers (Moving.No r) count to g = refusing s r
 
-  granules-in : Grounded s (granuleIn (s .seen) (s .owners) (s .theirs) a)
+  granules-in : Grounded s (granuleIn (s .caller) (s .owners) (s .theirs) a)
   unfolding granuleIn Clear
   granules-in =
-      testing s _ _ (λ c. let e : s .seen .caller ≡ realm = is-world (s .seen .caller) realm (c .0) in
-      transfers _ _ _ _ (λ v. subst (λ (to : ℕ). Moves s (a .x1) 1 to) e (record { from = normal; list = s .theirs; between = toCaller; some = omega arith; caller = inr e; verdict = v })))
+      testing s _ _ (λ c. let e : s .caller .world ≡ realm = is-world (s .caller .world) realm (c .0) in
+      transfers _ _ _ (λ first v. subst (λ (to : ℕ). Moves s first 1 to) e (record { start = a .x1; from = normal; list = s .theirs; between = toCaller; some = omega arith; caller = inr e; verdict = v })))
 
-  granules-out : Grounded s (granuleOut (s .seen) (s .owners) (s .own) a)
+  granules-out : Grounded s (granuleOut (s .caller) (s .owners) (s .own) a)
   unfolding granuleOut Clear
   granules-out =
-      testing s _ _ (λ c. transfers _ _ _ _ (λ v.
-      record { from = s .seen .caller; list = s .own; between = toNormal; some = omega arith; caller = inr (is-world (s .seen .caller) realm (c .0)); verdict = v }))
+      testing s _ _ (λ c. transfers _ _ _ (λ first v.
+      record { start = a .x1; from = s .caller .world; list = s .own; between = toNormal; some = omega arith; caller = inr (is-world (s .caller .world) realm (c .0)); verdict = v }))
 
   -- a grant of several pages is one of pages, and of at least one
-  several : {from to : ℕ} {list : List Mapping} → Between s from to list → Takes (s .seen .caller)
-      → severalVerdict (s .seen .window) (s .owners) list from (a .x1) (a .x2) ≡ Moving.Granted → Moves s (a .x1) (a .x2) to
-  several {from} {to} {list} b t v =
-      let g = several-granted (s .seen .window) (s .owners) list from (a .x1) (a .x2) v in
+  several : {from to : ℕ} {list : List Mapping} → Between s from to list → Takes (s .caller .world) → (first : ℕ)
+      → severalVerdict (s .caller .window) (s .owners) list from (a .x1) (a .x2) ≡ Moving.Granted first → Moves s first (a .x2) to
+  several {from} {to} {list} b t first v =
+      let g = several-granted (s .caller .window) (s .owners) list from (a .x1) (a .x2) first v in
       let n : a .x2 ≡ 0 → ⊥ = g .1 in
-      record { from = from; list = list; between = b; some = omega arith; caller = t; verdict = g .0 }
+      record { start = a .x1; from = from; list = list; between = b; some = omega arith; caller = t; verdict = g .0 }
 
-  takings : Grounded s (taking (s .seen) (s .owners) (s .theirs) a)
+  takings : Grounded s (taking (s .caller) (s .owners) (s .theirs) a)
   unfolding taking Clear
-  takings = testing s _ _ (λ c. transfers _ _ _ _ (λ v. several toCaller (is-taker (s .seen .caller) (c .0)) v))
+  takings = testing s _ _ (λ c. transfers _ _ _ (several toCaller (is-taker (s .caller .world) (c .0))))
 
-  givings : Grounded s (giving (s .seen) (s .owners) (s .own) a)
+  givings : Grounded s (giving (s .caller) (s .owners) (s .own) a)
   unfolding giving Clear
-  givings = testing s _ _ (λ c. transfers _ _ _ _ (λ v. several toNormal (is-taker (s .seen .caller) (c .0)) v))
+  givings = testing s _ _ (λ c. transfers _ _ _ (several toNormal (is-taker (s .caller .world) (c .0))))
 
   questions : (o : List ℕ) (p : Place) (world : ℕ) → Grounded s (owning o p world)
   unfolding owning
@@ -217,25 +218,25 @@ module _ (s : View) (a : Args) where
   mappings Verdict.Nothing m g = answering s _
   mappings (Verdict.No r) m g = refusing s r
 
-  hands : (to : ℕ) → Takes to → Grounded s (handing to (s .seen))
+  hands : (to : ℕ) → Takes to → Grounded s (handing to (s .caller))
   unfolding handing Clear
-  hands to t = testing s _ _ (λ c. passing s (HandOver to) (is-world (s .seen .caller) normal (c .0), t))
+  hands to t = testing s _ _ (λ c. passing s (HandOver to) (is-world (s .caller .world) normal (c .0), t))
 
-  finishes : (from : ℕ) → Takes from → Grounded s (finishing from (s .seen))
+  finishes : (from : ℕ) → Takes from → Grounded s (finishing from (s .caller))
   unfolding finishing Clear
   finishes from t =
-      testing s _ _ (λ c. passing s Finish (subst (λ (w : ℕ). Takes w) (sym (is-world (s .seen .caller) from (c .0))) t, not-false _ (c .1 .0)))
+      testing s _ _ (λ c. passing s Finish (subst (λ (w : ℕ). Takes w) (sym (is-world (s .caller .world) from (c .0))) t, not-false _ (c .1 .0)))
 
-  range : (key : ℕ) → Grounded s (ranged (s .seen) key)
-  unfolding ranged
+  range : (key : ℕ) → Grounded s (handingToRealm (s .caller) key)
+  unfolding handingToRealm
   range key = testing s _ _ (λ c. hands realm (inr refl))
 
-  trust : (key : ℕ) → Grounded s (trusted (s .seen) key)
+  trust : (key : ℕ) → Grounded s (trusted (s .caller) key)
   unfolding trusted
   trust key = chosen (Grounded s) _ _ _ (λ e. finishes secure (inl refl)) (λ e. hands secure (inl refl))
 
-  realm-calls : (key : ℕ) → Grounded s (realms (s .seen) (s .owners) (s .own) (s .theirs) a key)
-  unfolding realms
+  realm-calls : (key : ℕ) → Grounded s (realmCall (s .caller) (s .owners) (s .own) (s .theirs) a key)
+  unfolding realmCall
   realm-calls key =
       chosen (Grounded s) _ _ _ (λ e. granules-in)
       (λ e. chosen (Grounded s) _ _ _ (λ e. granules-out)
@@ -246,7 +247,7 @@ module _ (s : View) (a : Args) where
   unfolding standard
   standards key =
       chosen (Grounded s) _ _ _ (λ e. versions)
-      (λ e. chosen (Grounded s) _ _ _ (λ e. stops)
+      (λ e. chosen (Grounded s) _ _ _ (λ e. goes-off)
       (λ e. chosen (Grounded s) _ _ _ (λ e. starts)
       (λ e. chosen (Grounded s) _ _ _ (λ e. starts)
       (λ e. chosen (Grounded s) _ _ _ (λ e. states)
@@ -255,7 +256,7 @@ module _ (s : View) (a : Args) where
       (λ e. realm-calls key)))))))
 
   -- ---- the calls that any world makes, and so the whole judgement
-  module _ (may : Calls (s .seen .caller)) where
+  module _ (may : Calls (s .caller .world)) where
     unmappings : Grounded s (unmapping (s .own) a)
     unfolding unmapping Clear
     unmappings = testing s _ _ (λ c. doing s (Unmap (a .x1) (a .x2)) (record { caller = may; holds = not-false _ (c .0) }))
@@ -287,6 +288,6 @@ module _ (s : View) (a : Args) where
     lookups key (Handler h) = handlers key h
 
 -- every judgement is grounded
-pub grounded : (s : Sight) (xs : List ℕ) → Grounded (s .view) (judged s xs)
+pub grounded : (s : Sight) (xs : List ℕ) → Grounded (s .inner) (judged s xs)
 unfolding judged judgedBy Clear
-grounded s xs = testing (s .view) _ _ (λ c. lookups (s .view) _ (is-caller (s .view .seen .caller) (c .0)) _ _)
+grounded s xs = testing (s .inner) _ _ (λ c. lookups (s .inner) _ (is-caller (s .inner .caller .world) (c .0)) _ _)

@@ -36,27 +36,27 @@ use Rattle.judgements.specs.declared.Answer.the-variants as Answer
 use Rattle.judgements.specs.declared.Deed.{Deed}
 use Rattle.judgements.specs.declared.Deed.the-variants as Deed
 use Rattle.judgements.specs.declared.Judged.{Judged}
-use Rattle.judgements.specs.declared.Seen.{Seen}
+use Rattle.judgements.specs.declared.Caller.{Caller}
 use Rattle.judgements.specs.declared.Args.{Args}
 
 -- what the handlers may look at: the caller and its board, the cores' power, the owners, and two lists of mappings, the caller's and Normal's
-pub record View : Type 0 where
-  pub seen : Seen
+pub record HandlerSight : Type 0 where
+  pub caller : Caller
   pub powers : List ℕ
   pub owners : List ℕ
   pub own : List Mapping
   pub theirs : List Mapping
 
-abbrev pub viewed : Seen → List ℕ → List ℕ → List Mapping → List Mapping → View
-viewed v p o m n = record { seen = v; powers = p; owners = o; own = m; theirs = n }
+abbrev pub handlerSight : Caller → List ℕ → List ℕ → List Mapping → List Mapping → HandlerSight
+handlerSight v p o m n = record { caller = v; powers = p; owners = o; own = m; theirs = n }
 
 -- what a judgement may look at: that, and the ledger
 pub record Sight : Type 0 where
   pub ledger : List ℕ
-  pub view : View
+  pub inner : HandlerSight
 
-abbrev pub sighted : List ℕ → View → Sight
-sighted l v = record { ledger = l; view = v }
+abbrev pub sighted : List ℕ → HandlerSight → Sight
+sighted l v = record { ledger = l; inner = v }
 
 abbrev pub denied : Reason → Judged
 denied r = record { answer = Answer.No r; deed = Deed.Nothing }
@@ -72,8 +72,8 @@ tested ts j = sieve denied ts j
 
 -- ---- who may call
 -- the call is refused to every world but this one
-abbrev pub onlyFrom : ℕ → Seen → Test Reason
-onlyFrom world v = refuses (not (eqb (v .caller) world)) Reason.Unserved
+abbrev pub onlyFrom : ℕ → Caller → Test Reason
+onlyFrom world v = refuses (not (eqb (v .world) world)) Reason.Unserved
 
 -- the key is one of these
 unfoldable pub oneOf : ℕ → List ℕ → Bool
@@ -130,7 +130,7 @@ ownedAt o Outside world = false
 unfoldable pub goodStart : Window → List ℕ → ℕ → Bool
 goodStart w o address = eqb (address % 4) 0 && ownedAt o (pageOf w address) normal
 
-unfoldable pub starting : Seen → List ℕ → List ℕ → Args → Judged
+unfoldable pub starting : Caller → List ℕ → List ℕ → Args → Judged
 starting v powers o a =
     tested
     (onlyFrom normal v
@@ -145,8 +145,8 @@ starting v powers o a =
 unfoldable pub stateOf : Power → Answer
 stateOf c = pick (isOn c) Answer.On (pick (isPending c) Answer.Pending Answer.Off)
 
-unfoldable pub stating : Seen → List ℕ → Args → Judged
-stating v powers a =
+unfoldable pub tellingState : Caller → List ℕ → Args → Judged
+tellingState v powers a =
     tested
     (onlyFrom normal v
     ∷ refuses (leb (v .cores) (a .x1)) Reason.Invalid
@@ -154,46 +154,46 @@ stating v powers a =
     ∷ [])
     (granted (stateOf (power powers (a .x1))) Deed.Nothing)
 
-unfoldable pub stopping : Seen → Judged
-stopping v = tested (onlyFrom normal v ∷ []) (granted Answer.Silent Deed.Stop)
+unfoldable pub goingOff : Caller → Judged
+goingOff v = tested (onlyFrom normal v ∷ []) (granted Answer.Silent Deed.GoOff)
 
-unfoldable pub versioning : Seen → Judged
+unfoldable pub versioning : Caller → Judged
 versioning v = tested (onlyFrom normal v ∷ []) (granted Answer.PowerVersion Deed.Nothing)
 
 -- what the power features question affirms
 abbrev pub powerCalls : List ℕ
 powerCalls = powerVersion ∷ coreOff ∷ coreStart ∷ coreStartWide ∷ coreState ∷ coreStateWide ∷ powerFeatures ∷ version ∷ []
 
-unfoldable pub powering : Seen → Args → Judged
-powering v a = tested (onlyFrom normal v ∷ []) (affirmed (oneOf (asked a) powerCalls))
+unfoldable pub powerFeaturing : Caller → Args → Judged
+powerFeaturing v a = tested (onlyFrom normal v ∷ []) (affirmed (oneOf (asked a) powerCalls))
 
 -- ---- page transfers
 -- what a transfer's verdict makes of the call
-unfoldable pub moving : Moving → ℕ → ℕ → ℕ → Judged
-moving Moving.Granted start count to = granted Answer.Done (Deed.Move start count to)
-moving (Moving.No r) start count to = denied r
+unfoldable pub moving : Moving → ℕ → ℕ → Judged
+moving (Moving.Granted first) count to = granted Answer.Done (Deed.Move first count to)
+moving (Moving.No r) count to = denied r
 
 -- one page from Normal to Realm
-unfoldable pub granuleIn : Seen → List ℕ → List Mapping → Args → Judged
+unfoldable pub granuleIn : Caller → List ℕ → List Mapping → Args → Judged
 granuleIn v o theirs a =
-    tested (onlyFrom realm v ∷ []) (moving (moveVerdict (v .window) o theirs normal (a .x1) 1) (a .x1) 1 realm)
+    tested (onlyFrom realm v ∷ []) (moving (moveVerdict (v .window) o theirs normal (a .x1) 1) 1 realm)
 
 -- one page from Realm to Normal
-unfoldable pub granuleOut : Seen → List ℕ → List Mapping → Args → Judged
+unfoldable pub granuleOut : Caller → List ℕ → List Mapping → Args → Judged
 granuleOut v o own a =
-    tested (onlyFrom realm v ∷ []) (moving (moveVerdict (v .window) o own (v .caller) (a .x1) 1) (a .x1) 1 normal)
+    tested (onlyFrom realm v ∷ []) (moving (moveVerdict (v .window) o own (v .world) (a .x1) 1) 1 normal)
 
 -- several pages from Normal to the caller
-unfoldable pub taking : Seen → List ℕ → List Mapping → Args → Judged
+unfoldable pub taking : Caller → List ℕ → List Mapping → Args → Judged
 taking v o theirs a =
-    tested (refuses (not (oneOf (v .caller) takers)) Reason.Unserved ∷ [])
-    (moving (severalVerdict (v .window) o theirs normal (a .x1) (a .x2)) (a .x1) (a .x2) (v .caller))
+    tested (refuses (not (oneOf (v .world) takers)) Reason.Unserved ∷ [])
+    (moving (severalVerdict (v .window) o theirs normal (a .x1) (a .x2)) (a .x2) (v .world))
 
 -- several pages from the caller to Normal
-unfoldable pub giving : Seen → List ℕ → List Mapping → Args → Judged
+unfoldable pub giving : Caller → List ℕ → List Mapping → Args → Judged
 giving v o own a =
-    tested (refuses (not (oneOf (v .caller) takers)) Reason.Unserved ∷ [])
-    (moving (severalVerdict (v .window) o own (v .caller) (a .x1) (a .x2)) (a .x1) (a .x2) normal)
+    tested (refuses (not (oneOf (v .world) takers)) Reason.Unserved ∷ [])
+    (moving (severalVerdict (v .window) o own (v .world) (a .x1) (a .x2)) (a .x2) normal)
 
 -- ---- handler 1: the board
 -- whether the caller owns the page at this place
@@ -217,62 +217,62 @@ unfoldable pub leading : Lead → Judged
 leading (Lead.To phys attr) = granted (Answer.Leads phys attr) Deed.Nothing
 leading Lead.Nowhere = denied Reason.Nowhere
 
-unfoldable pub board : View → Args → ℕ → Judged
+unfoldable pub board : HandlerSight → Args → ℕ → Judged
 board s a key =
-    pick (eqb key takePages) (taking (s .seen) (s .owners) (s .theirs) a)
-    (pick (eqb key givePages) (giving (s .seen) (s .owners) (s .own) a)
-    (pick (eqb key ownsPage) (owning (s .owners) (pageOf (s .seen .window) (a .x1)) (s .seen .caller))
-    (pick (eqb key mapPages) (mapping (mapVerdict (s .own) (s .owners) (s .seen .window) (s .seen .caller) (wanted a)) (wanted a))
+    pick (eqb key takePages) (taking (s .caller) (s .owners) (s .theirs) a)
+    (pick (eqb key givePages) (giving (s .caller) (s .owners) (s .own) a)
+    (pick (eqb key ownsPage) (owning (s .owners) (pageOf (s .caller .window) (a .x1)) (s .caller .world))
+    (pick (eqb key mapPages) (mapping (mapVerdict (s .own) (s .owners) (s .caller .window) (s .caller .world) (wanted a)) (wanted a))
     (pick (eqb key unmapPages) (unmapping (s .own) a)
     (pick (eqb key whereLeads) (leading (leadOf (s .own) (a .x1)))
     (pick (eqb key countOn) (granted (Answer.Count (onCount (s .powers))) Deed.Nothing)
     (denied Reason.Unserved)))))))
 
 -- ---- hand-over and finish
-unfoldable pub handing : ℕ → Seen → Judged
+unfoldable pub handing : ℕ → Caller → Judged
 handing to v = tested (onlyFrom normal v ∷ []) (granted Answer.Silent (Deed.HandOver to))
 
-unfoldable pub finishing : ℕ → Seen → Judged
+unfoldable pub finishing : ℕ → Caller → Judged
 finishing from v = tested (onlyFrom from v ∷ refuses (not (v .is_open)) Reason.NotOpen ∷ []) (granted Answer.Silent Deed.Finish)
 
 -- ---- handler 2: standard calls
 -- Realm's range of hand-over
-unfoldable pub ranged : Seen → ℕ → Judged
-ranged v key = tested (refuses (ltb key realmFirst) Reason.Unserved ∷ refuses (ltb realmLast key) Reason.Unserved ∷ []) (handing realm v)
+unfoldable pub handingToRealm : Caller → ℕ → Judged
+handingToRealm v key = tested (refuses (ltb key realmFirst) Reason.Unserved ∷ refuses (ltb realmLast key) Reason.Unserved ∷ []) (handing realm v)
 
 -- single pages, and Realm's hand-over and finish
-unfoldable pub realms : Seen → List ℕ → List Mapping → List Mapping → Args → ℕ → Judged
-realms v o own theirs a key =
+unfoldable pub realmCall : Caller → List ℕ → List Mapping → List Mapping → Args → ℕ → Judged
+realmCall v o own theirs a key =
     pick (eqb key granuleToRealm) (granuleIn v o theirs a)
     (pick (eqb key granuleToNormal) (granuleOut v o own a)
     (pick (eqb key realmFinish) (finishing realm v)
-    (ranged v key)))
+    (handingToRealm v key)))
 
-unfoldable pub standard : View → Args → ℕ → Judged
+unfoldable pub standard : HandlerSight → Args → ℕ → Judged
 standard s a key =
-    pick (eqb key powerVersion) (versioning (s .seen))
-    (pick (eqb key coreOff) (stopping (s .seen))
-    (pick (eqb key coreStart) (starting (s .seen) (s .powers) (s .owners) a)
-    (pick (eqb key coreStartWide) (starting (s .seen) (s .powers) (s .owners) a)
-    (pick (eqb key coreState) (stating (s .seen) (s .powers) a)
-    (pick (eqb key coreStateWide) (stating (s .seen) (s .powers) a)
-    (pick (eqb key powerFeatures) (powering (s .seen) a)
-    (realms (s .seen) (s .owners) (s .own) (s .theirs) a key)))))))
+    pick (eqb key powerVersion) (versioning (s .caller))
+    (pick (eqb key coreOff) (goingOff (s .caller))
+    (pick (eqb key coreStart) (starting (s .caller) (s .powers) (s .owners) a)
+    (pick (eqb key coreStartWide) (starting (s .caller) (s .powers) (s .owners) a)
+    (pick (eqb key coreState) (tellingState (s .caller) (s .powers) a)
+    (pick (eqb key coreStateWide) (tellingState (s .caller) (s .powers) a)
+    (pick (eqb key powerFeatures) (powerFeaturing (s .caller) a)
+    (realmCall (s .caller) (s .owners) (s .own) (s .theirs) a key)))))))
 
 -- ---- handler 3: the trusted system
-unfoldable pub trusted : Seen → ℕ → Judged
+unfoldable pub trusted : Caller → ℕ → Judged
 trusted v key = pick (eqb key secureFinish) (finishing secure v) (handing secure v)
 
 -- ---- the whole judgement, in order
-unfoldable pub byHandler : View → Args → ℕ → ℕ → Judged
+unfoldable pub byHandler : HandlerSight → Args → ℕ → ℕ → Judged
 byHandler s a key h =
     pick (eqb h 0) (architecture a key)
     (pick (eqb h 1) (board s a key)
     (pick (eqb h 2) (standard s a key)
-    (pick (eqb h 3) (trusted (s .seen) key)
+    (pick (eqb h 3) (trusted (s .caller) key)
     (denied Reason.Unserved))))
 
-unfoldable pub found : View → Args → ℕ → Lookup → Judged
+unfoldable pub found : HandlerSight → Args → ℕ → Lookup → Judged
 found s a key Nobody = denied Reason.Unserved
 found s a key (Handler h) = byHandler s a key h
 
@@ -283,10 +283,10 @@ calledBy xs = parts (identifierOf (getD xs 0 0))
 unfoldable pub judgedBy : Sight → Parts → Args → ℕ → Judged
 judgedBy s p a key =
     tested
-    (refuses (not (oneOf (s .view .seen .caller) callers)) Reason.Unserved
+    (refuses (not (oneOf (s .inner .caller .world) callers)) Reason.Unserved
     ∷ refuses (not (admitted p)) Reason.Unserved
     ∷ [])
-    (found (s .view) a key (handler (s .ledger) (p .fast) (p .owner)))
+    (found (s .inner) a key (handler (s .ledger) (p .fast) (p .owner)))
 
 unfoldable pub judged : Sight → List ℕ → Judged
 judged s xs = judgedBy s (calledBy xs) (argsOf (calledBy xs) xs) (keyOf (identifierOf (getD xs 0 0)))

@@ -35,13 +35,13 @@ pub enum Answer {
 // What is to be done for a call.
 pub enum Deed {
     Nothing,
-    // pages go to another owner
-    Move { start: u64, count: u64, to: u64 },
+    // pages, from the first one's place in the window on, go to another owner
+    Move { first: u64, count: u64, to: u64 },
     Map(Mapping),
     Unmap { virt: u64, size: u64 },
     Start { core: u64, start: u64, context: u64 },
     // the calling core goes OFF
-    Stop,
+    GoOff,
     // the world that receives the core
     HandOver(u64),
     Finish,
@@ -53,9 +53,9 @@ pub struct Judged {
     pub deed: Deed,
 }
 
-// What a judgement sees of the caller and its board.
-pub struct Seen {
-    pub caller: u64,
+// Who calls, and from where.
+pub struct Caller {
+    pub world: u64,
     // whether a hand-over is open on the core
     pub is_open: bool,
     pub cores: u64,

@@ -12,10 +12,10 @@ use Rattle.ledger.specs.declared.Lookup.{Lookup}
 use Rattle.ledger.specs.declared.Lookup.the-variants.{Handler, Nobody}
 use Rattle.judgements.specs.declared.Judged.{Judged}
 use Rattle.judgements.specs.declared.Args.{Args}
-use Rattle.judgements.specs.Judge.{View, Sight, argsOf, judgedBy, judged, denied, found, byHandler}
+use Rattle.judgements.specs.Judge.{HandlerSight, Sight, argsOf, judgedBy, judged, denied, found, byHandler}
 
 -- ---- what the ledger says
-module _ (s : View) (a : Args) (key : ℕ) (k l : Lookup) (r : Judged) (same : k ≡ l) where
+module _ (s : HandlerSight) (a : Args) (key : ℕ) (k l : Lookup) (r : Judged) (same : k ≡ l) where
   pub by-nobody : k ≡ Nobody → r ≡ denied Reason.Unserved → r ≡ found s a key l
   unfolding found
   by-nobody e h = rw (← same, e) h

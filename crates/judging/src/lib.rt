@@ -2,15 +2,15 @@
 ghost use mathlib.Core.Path.{_≡_};
 ghost use Rattle.mapping.specs.Lists.{held};
 ghost use Rattle.judgements.specs.Names.{normal};
-ghost use Rattle.judgements.specs.Judge.{oneOf, callers, argsOf, viewed, sighted, byHandler, judgedBy, judged};
+ghost use Rattle.judgements.specs.Judge.{oneOf, callers, argsOf, handlerSight, sighted, byHandler, judgedBy, judged};
 use architecture::architecture_call;
 use board::board_call;
 use cores::Powers;
 use identifiers::Identifier;
 use identifiers::Parts;
 use judgements::Args;
+use judgements::Caller;
 use judgements::Judged;
-use judgements::Seen;
 use judgements::names;
 use judgements::refuse;
 use ledger::Ledger;
@@ -47,7 +47,7 @@ fn read_args(p: Parts, x: &[u64; 8]) -> Args
 
 // What the handler makes of the call.
 fn by_handler(
-    v: Seen,
+    v: Caller,
     powers: &Powers,
     owners: &Owners,
     lists: &Lists,
@@ -55,7 +55,7 @@ fn by_handler(
     key: u32,
     h: u64,
 ) -> Judged
-    ensures { λ r. ⌜ r ≡ byHandler (viewed v (now (powers .entry)) (now (owners .entry)) (held (now (lists .entry)) (v .caller)) (held (now (lists .entry)) normal)) a key h ⌝ }
+    ensures { λ r. ⌜ r ≡ byHandler (handlerSight v (now (powers .entry)) (now (owners .entry)) (held (now (lists .entry)) (v .world)) (held (now (lists .entry)) normal)) a key h ⌝ }
 {
     match h {
         0 => architecture_call(a, key),
@@ -68,7 +68,7 @@ fn by_handler(
 
 // Judges a call with these parts, arguments and key.
 fn judge_parts(
-    v: Seen,
+    v: Caller,
     book: &Ledger,
     powers: &Powers,
     owners: &Owners,
@@ -77,9 +77,9 @@ fn judge_parts(
     a: Args,
     key: u32,
 ) -> Judged
-    ensures { λ r. ⌜ r ≡ judgedBy (sighted (now (book .entry)) (viewed v (now (powers .entry)) (now (owners .entry)) (held (now (lists .entry)) (v .caller)) (held (now (lists .entry)) normal))) p a key ⌝ }
+    ensures { λ r. ⌜ r ≡ judgedBy (sighted (now (book .entry)) (handlerSight v (now (powers .entry)) (now (owners .entry)) (held (now (lists .entry)) (v .world)) (held (now (lists .entry)) normal))) p a key ⌝ }
 {
-    if !may_call(v.caller) {
+    if !may_call(v.world) {
         return refuse(Reason::Unserved);
     }
     if !p.admitted() {
@@ -93,14 +93,14 @@ fn judge_parts(
 
 // Judges the call that the eight numbers make.
 pub fn judge(
-    v: Seen,
+    v: Caller,
     book: &Ledger,
     powers: &Powers,
     owners: &Owners,
     lists: &Lists,
     x: &[u64; 8],
 ) -> Judged
-    ensures { λ r. ⌜ r ≡ judged (sighted (now (book .entry)) (viewed v (now (powers .entry)) (now (owners .entry)) (held (now (lists .entry)) (v .caller)) (held (now (lists .entry)) normal))) (now (x .entry)) ⌝ }
+    ensures { λ r. ⌜ r ≡ judged (sighted (now (book .entry)) (handlerSight v (now (powers .entry)) (now (owners .entry)) (held (now (lists .entry)) (v .world)) (held (now (lists .entry)) normal))) (now (x .entry)) ⌝ }
 {
     let id = Identifier::of(x[0]);
     let p = id.split();

@@ -106,15 +106,15 @@ module _ (t : List ℕ) (kind owner number : ℕ) where
 
 pub ruleset puts = (put-no-kind, put-no-owner, put-no-handler, put-here)
 
-turn : (t : List ℕ) (kind owner left number : ℕ) → 0 < left → assigned t kind owner left number ≡ assigned (put t kind owner number) kind (owner + 1) (left - 1) number
+pass : (t : List ℕ) (kind owner left number : ℕ) → 0 < left → assigned t kind owner left number ≡ assigned (put t kind owner number) kind (owner + 1) (left - 1) number
 unfolding assigned
-turn t kind owner zero number h = absurd (omega arith)
-turn t kind owner (suc left) number h = let q : suc left - 1 ≡ left = omega arith in rw (q, add-one)
+pass t kind owner zero number h = absurd (omega arith)
+pass t kind owner (suc left) number h = let q : suc left - 1 ≡ left = omega arith in rw (q, add-one)
 
 -- what the whole assignment gives, `k`, is what is still to be done of it
 module _ (t : List ℕ) (kind owner left number : ℕ) (k : List ℕ) (still : k ≡ assigned t kind owner left number) where
   pub assigned-goes : (u : List ℕ) → u ≡ put t kind owner number → 0 < left → k ≡ assigned u kind (owner + 1) (left - 1) number
-  assigned-goes u e h = rw e (still ∙ turn t kind owner left number h)
+  assigned-goes u e h = rw e (still ∙ pass t kind owner left number h)
 
   pub assigned-ends : left ≤ 0 → t ≡ k
   unfolding assigned

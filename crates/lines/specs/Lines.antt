@@ -14,7 +14,7 @@ use Rattle.rules.specs.Choice.{pick, picked, passed, either, yes-or-no}
 use Rattle.rules.specs.Search.{all-at, first, first-goes, first-stops, first-ends, first-is, Firstly}
 use Rattle.hex.specs.Hex.{digitOf, digitAt, allDigits}
 use Rattle.parsing.specs.Frame.{parsed, parsed-digits}
-use Rattle.lines.specs.Quick.{Seen}
+use Rattle.lines.specs.Quick.{Looked}
 use Rattle.parsing.specs.declared.Frame.{Frame}
 use Rattle.parsing.specs.declared.Frame.the-variants.{Call}
 use Rattle.lines.specs.declared.Look.{Look}
@@ -133,7 +133,7 @@ digits-no-newline l k d h e =
     yes-or-no (digitAt l k) y (rw e)
 
 -- ---- a call, known by the newline after 132 signs
-module _ (s xs ys : List ℕ) (at e : ℕ) (look : Look) (n : e ≡ at + 132) (h : e < length s) (q : Seen (part s at e) xs look ys) where
+module _ (s xs ys : List ℕ) (at e : ℕ) (look : Look) (n : e ≡ at + 132) (h : e < length s) (q : Looked (part s at e) xs look ys) where
   pub next-quick : (core : ℕ) → look ≡ Look.Call core → getD s e 0 ≡ 10 → (Line (Call core) (e + 1), ys) ≡ nextOf s at xs
   next-quick core c g =
       let p : (Call core, ys) ≡ parsed (part s at e) xs = rw c at q in

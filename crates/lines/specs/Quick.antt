@@ -19,9 +19,9 @@ use Rattle.hex.specs.declared.Byte.{Byte}
 use Rattle.hex.specs.declared.Byte.the-variants.{Is}
 
 -- a call is what is parsed; all else leaves the numbers, and is searched for its end
-abbrev pub Seen : List ℕ → List ℕ → Look → List ℕ → Type 0
-Seen l xs (Look.Call core) ys = (Call core, ys) ≡ parsed l xs
-Seen l xs Look.NoCall ys = ys ≡ xs
+abbrev pub Looked : List ℕ → List ℕ → Look → List ℕ → Type 0
+Looked l xs (Look.Call core) ys = (Call core, ys) ≡ parsed l xs
+Looked l xs Look.NoCall ys = ys ≡ xs
 
 -- ---- a search over all, in two parts
 all-parts : (p : ℕ → Bool) (a m n : ℕ) → all p a (m + n) ≡ (all p a m && all p (a + m) n)
@@ -40,7 +40,7 @@ module _ (l xs ys : List ℕ) (h : length l ≡ 132) where
 
   pub quick-call :
       (a b : Byte) (first core : ℕ) (d : Bool) → a ≡ byteOf l 0 → a ≡ Is first → first ≡ 0x20 → b ≡ byteOf l 1 → b ≡ Is core → (d, ys) ≡ eight l 2 xs → d ≡ true →
-      Seen l xs (Look.Call core) ys
+      Looked l xs (Look.Call core) ys
   unfolding kind pick
   quick-call a b first core d p p′ e q q′ r t =
       let u = byte-was l 0 first (sym p′ ∙ p) in
@@ -50,5 +50,5 @@ module _ (l xs ys : List ℕ) (h : length l ≡ 132) where
       (row l first (u .1) 0x20 66 (callIn l) (callIn l) (Call core) e refl (sized-yes l 66 (callIn l) (Call core) h (rw (v .1))) refl) in
       call-parsed l xs (Call core) f ys refl (w .1)
 
-  pub quick-none : (d : Bool) → (d, ys) ≡ eight l 2 xs → d ≡ false → Seen l xs Look.NoCall ys
+  pub quick-none : (d : Bool) → (d, ys) ≡ eight l 2 xs → d ≡ false → Looked l xs Look.NoCall ys
   quick-none d r t = eight-left l xs ys 2 (rw (← t) r)

@@ -5,7 +5,7 @@ use parsing::MOST;
 ghost use mathlib.Core.Path.{_≡_};
 ghost use Prim.Native.Nat.{min};
 ghost use lib.ListN.{length};
-ghost use Rattle.lines.specs.Quick.{Seen};
+ghost use Rattle.lines.specs.Quick.{Looked};
 ghost use Rattle.lines.specs.Lines.{endOf, nextOf};
 ghost use Rattle.lines.specs.Front.{fronted};
 
@@ -26,7 +26,7 @@ enum Look {
 // A call and its numbers, or none, and the numbers are left.
 fn quick(line: &[u8], xs: &mut [u64; 8]) -> Look
     requires { ⌜ length (now line) ≡ 132 ⌝ }
-    ensures { λ r. ⌜ Seen (now (line .entry)) (now (xs .entry)) r (now (xs .exit)) ⌝ }
+    ensures { λ r. ⌜ Looked (now (line .entry)) (now (xs .entry)) r (now (xs .exit)) ⌝ }
 {
     let Byte::Is(first) = hex::byte_at(line, 0) else {
         return Look::NoCall;

@@ -10,15 +10,15 @@ use Rattle.judgements.specs.declared.Deed.the-variants as Deed
 use Rattle.judgements.specs.declared.Judged.{Judged}
 use Rattle.judgements.specs.Judge.{denied, granted, moving}
 
-module _ (l : Moving) (start count to : ℕ) (r : Judged) where
-  pub moved-by : (k : Moving) → k ≡ l → r ≡ moving k start count to → r ≡ moving l start count to
+module _ (l : Moving) (count to : ℕ) (r : Judged) where
+  pub moved-by : (k : Moving) → k ≡ l → r ≡ moving k count to → r ≡ moving l count to
   moved-by k same h = rw (← same) h
 
-  pub move-granted : l ≡ Moving.Granted → r ≡ granted Answer.Done (Deed.Move start count to) → r ≡ moving l start count to
+  pub move-granted : (first : ℕ) → l ≡ Moving.Granted first → r ≡ granted Answer.Done (Deed.Move first count to) → r ≡ moving l count to
   unfolding moving
-  move-granted e h = rw e h
+  move-granted first e h = rw e h
 
-  pub move-no : (q : Reason) → l ≡ Moving.No q → r ≡ denied q → r ≡ moving l start count to
+  pub move-no : (q : Reason) → l ≡ Moving.No q → r ≡ denied q → r ≡ moving l count to
   unfolding moving
   move-no q e h = rw e h
 

@@ -5,9 +5,9 @@ ghost use Rattle.judgements.specs.Names.{normal};
 ghost use Rattle.judgements.specs.Judge.{oneOf, takers, moving, granuleIn, granuleOut, taking, giving};
 use judgements::Answer;
 use judgements::Args;
+use judgements::Caller;
 use judgements::Deed;
 use judgements::Judged;
-use judgements::Seen;
 use judgements::grant;
 use judgements::names;
 use judgements::refuse;
@@ -28,54 +28,52 @@ fn may_take(world: u64) -> bool
 }
 
 // What a transfer's verdict makes of the call.
-fn moved(t: Verdict, start: u64, count: u64, to: u64) -> Judged
-    ensures { λ r. ⌜ r ≡ moving t start count to ⌝ }
+fn moved(t: Verdict, count: u64, to: u64) -> Judged
+    ensures { λ r. ⌜ r ≡ moving t count to ⌝ }
 {
     match t {
-        Verdict::Granted => grant(Answer::Done, Deed::Move { start, count, to }),
+        Verdict::Granted(first) => grant(Answer::Done, Deed::Move { first, count, to }),
         Verdict::No(r) => refuse(r),
     }
 }
 
 // One page from Normal to Realm.
-pub fn granule_in(v: Seen, owners: &Owners, lists: &Lists, a: Args) -> Judged
+pub fn granule_in(v: Caller, owners: &Owners, lists: &Lists, a: Args) -> Judged
     ensures { λ r. ⌜ r ≡ granuleIn v (now (owners .entry)) (held (now (lists .entry)) normal) a ⌝ }
 {
-    if v.caller != names::REALM {
+    if v.world != names::REALM {
         return refuse(Reason::Unserved);
     }
     let start = a.x1;
     let w = v.window;
     moved(
         transfers::judge(w, owners, lists, names::NORMAL, start, 1),
-        start,
         1,
         names::REALM,
     )
 }
 
 // One page from Realm to Normal.
-pub fn granule_out(v: Seen, owners: &Owners, lists: &Lists, a: Args) -> Judged
-    ensures { λ r. ⌜ r ≡ granuleOut v (now (owners .entry)) (held (now (lists .entry)) (v .caller)) a ⌝ }
+pub fn granule_out(v: Caller, owners: &Owners, lists: &Lists, a: Args) -> Judged
+    ensures { λ r. ⌜ r ≡ granuleOut v (now (owners .entry)) (held (now (lists .entry)) (v .world)) a ⌝ }
 {
-    if v.caller != names::REALM {
+    if v.world != names::REALM {
         return refuse(Reason::Unserved);
     }
     let start = a.x1;
     let w = v.window;
     moved(
-        transfers::judge(w, owners, lists, v.caller, start, 1),
-        start,
+        transfers::judge(w, owners, lists, v.world, start, 1),
         1,
         names::NORMAL,
     )
 }
 
 // Several pages from Normal to the caller.
-pub fn take_pages(v: Seen, owners: &Owners, lists: &Lists, a: Args) -> Judged
+pub fn take_pages(v: Caller, owners: &Owners, lists: &Lists, a: Args) -> Judged
     ensures { λ r. ⌜ r ≡ taking v (now (owners .entry)) (held (now (lists .entry)) normal) a ⌝ }
 {
-    if !may_take(v.caller) {
+    if !may_take(v.world) {
         return refuse(Reason::Unserved);
     }
     let start = a.x1;
@@ -83,25 +81,23 @@ pub fn take_pages(v: Seen, owners: &Owners, lists: &Lists, a: Args) -> Judged
     let w = v.window;
     moved(
         transfers::judge_several(w, owners, lists, names::NORMAL, start, count),
-        start,
         count,
-        v.caller,
+        v.world,
     )
 }
 
 // Several pages from the caller to Normal.
-pub fn give_pages(v: Seen, owners: &Owners, lists: &Lists, a: Args) -> Judged
-    ensures { λ r. ⌜ r ≡ giving v (now (owners .entry)) (held (now (lists .entry)) (v .caller)) a ⌝ }
+pub fn give_pages(v: Caller, owners: &Owners, lists: &Lists, a: Args) -> Judged
+    ensures { λ r. ⌜ r ≡ giving v (now (owners .entry)) (held (now (lists .entry)) (v .world)) a ⌝ }
 {
-    if !may_take(v.caller) {
+    if !may_take(v.world) {
         return refuse(Reason::Unserved);
     }
     let start = a.x1;
     let count = a.x2;
     let w = v.window;
     moved(
-        transfers::judge_several(w, owners, lists, v.caller, start, count),
-        start,
+        transfers::judge_several(w, owners, lists, v.world, start, count),
         count,
         names::NORMAL,
     )

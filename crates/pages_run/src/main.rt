@@ -32,7 +32,7 @@ struct Step {
 }
 
 // A number that was read, and where the next one begins.
-struct Seen {
+struct Read {
     value: u64,
     next: usize,
 }
@@ -81,7 +81,7 @@ fn digit(sign: u8) -> u64
 }
 
 // The number that begins at `at`, up to a sign that is no digit. Of too many digits the last count.
-fn number_at(text: &[u8], at: usize) -> Seen
+fn number_at(text: &[u8], at: usize) -> Read
     requires { ⌜ at ≤ length (now text) ⌝ }
     ensures { λ r. ⌜ (at ≤ r .next) × (r .next ≤ length (now (text .entry))) ⌝ }
 {
@@ -91,11 +91,11 @@ fn number_at(text: &[u8], at: usize) -> Seen
         let d = digit(text[next]);
         next += 1;
         if 15 < d {
-            return Seen { value, next };
+            return Read { value, next };
         }
         value = value % 0x1000000000000000 * 16 + d;
     }
-    Seen { value, next }
+    Read { value, next }
 }
 
 fn step_at(text: &[u8], at: usize) -> Step
@@ -182,8 +182,8 @@ fn transfer(
     count: u64,
 ) -> Answer {
     match transfers::judge_several(w, owners, lists, from, start, count) {
-        transfers::Verdict::Granted => {
-            transfers::carry(w, owners, start, count, to);
+        transfers::Verdict::Granted(first) => {
+            pages::give(owners, first, count, to);
             Answer::Number(0)
         }
         transfers::Verdict::No(r) => Answer::Refused(r),

@@ -2,15 +2,15 @@
 ghost use mathlib.Core.Path.{_≡_};
 ghost use Rattle.cores.specs.Power.{isOn, isPending};
 ghost use Rattle.cores.specs.Cores.{power};
-ghost use Rattle.judgements.specs.Judge.{granted, affirmed, asked, goodStart, starting, stateOf, stating, stopping, versioning, oneOf, powerCalls, powering};
+ghost use Rattle.judgements.specs.Judge.{granted, affirmed, asked, goodStart, starting, stateOf, tellingState, goingOff, versioning, oneOf, powerCalls, powerFeaturing};
 use architecture::affirm;
 use architecture::asked_key;
 use cores::Powers;
 use judgements::Answer;
 use judgements::Args;
+use judgements::Caller;
 use judgements::Deed;
 use judgements::Judged;
-use judgements::Seen;
 use judgements::grant;
 use judgements::names;
 use judgements::refuse;
@@ -45,10 +45,10 @@ fn pending_core(powers: &Powers, core: u64) -> bool
 }
 
 // Starts core x1 at x2 with context x3.
-pub fn start_core(v: Seen, powers: &Powers, owners: &Owners, a: Args) -> Judged
+pub fn start_core(v: Caller, powers: &Powers, owners: &Owners, a: Args) -> Judged
     ensures { λ r. ⌜ r ≡ starting v (now (powers .entry)) (now (owners .entry)) a ⌝ }
 {
-    if v.caller != names::NORMAL {
+    if v.world != names::NORMAL {
         return refuse(Reason::Unserved);
     }
     let core = a.x1;
@@ -97,10 +97,10 @@ fn stated(powers: &Powers, core: u64) -> Judged
 }
 
 // The state of core x1. Level x2 can only be 0, the core itself.
-pub fn state_core(v: Seen, powers: &Powers, a: Args) -> Judged
-    ensures { λ r. ⌜ r ≡ stating v (now (powers .entry)) a ⌝ }
+pub fn tell_state(v: Caller, powers: &Powers, a: Args) -> Judged
+    ensures { λ r. ⌜ r ≡ tellingState v (now (powers .entry)) a ⌝ }
 {
-    if v.caller != names::NORMAL {
+    if v.world != names::NORMAL {
         return refuse(Reason::Unserved);
     }
     let core = a.x1;
@@ -115,20 +115,20 @@ pub fn state_core(v: Seen, powers: &Powers, a: Args) -> Judged
 }
 
 // The calling core goes OFF; its registers stay.
-pub fn stop_core(v: Seen) -> Judged
-    ensures { λ r. ⌜ r ≡ stopping v ⌝ }
+pub fn go_off(v: Caller) -> Judged
+    ensures { λ r. ⌜ r ≡ goingOff v ⌝ }
 {
-    if v.caller != names::NORMAL {
+    if v.world != names::NORMAL {
         return refuse(Reason::Unserved);
     }
-    grant(Answer::Silent, Deed::Stop)
+    grant(Answer::Silent, Deed::GoOff)
 }
 
 // The version of core power.
-pub fn power_version(v: Seen) -> Judged
+pub fn power_version(v: Caller) -> Judged
     ensures { λ r. ⌜ r ≡ versioning v ⌝ }
 {
-    if v.caller != names::NORMAL {
+    if v.world != names::NORMAL {
         return refuse(Reason::Unserved);
     }
     grant(Answer::PowerVersion, Deed::Nothing)
@@ -158,10 +158,10 @@ fn known_power(a: Args) -> Judged
 }
 
 // Whether a call of core power is known.
-pub fn power_features(v: Seen, a: Args) -> Judged
-    ensures { λ r. ⌜ r ≡ powering v a ⌝ }
+pub fn power_features(v: Caller, a: Args) -> Judged
+    ensures { λ r. ⌜ r ≡ powerFeaturing v a ⌝ }
 {
-    if v.caller != names::NORMAL {
+    if v.world != names::NORMAL {
         return refuse(Reason::Unserved);
     }
     known_power(a)

@@ -1,2 +1,2 @@
 pub mod Transfer
-pub mod Kept
+pub mod Granted

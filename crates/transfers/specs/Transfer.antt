@@ -1,4 +1,4 @@
--- One operation moves a run of pages from one world to another: its tests in the paper's order, and its one effect.
+-- Whether a run of pages may go from one world to another: the tests in the paper's order, and the run's first page where none of them holds.
 use mathlib.Core.Path.{_≡_}
 use mathlib.Core.Bool.{not}
 use mathlib.Core.List.{List, [], _∷_}
@@ -7,7 +7,7 @@ use lib.Dec.{eqb}
 use Rattle.rules.specs.Tests.{refuses, sieve, contraries}
 use Rattle.rules.specs.declared.Reason.the-variants.{Invalid, WrongOwner, NoPages, Mapped}
 use Rattle.pages.specs.Window.{runOf}
-use Rattle.pages.specs.Owners.{owned, given}
+use Rattle.pages.specs.Owners.{owned}
 use Rattle.pages.specs.declared.Window.{Window}
 use Rattle.pages.specs.declared.Place.{Place}
 use Rattle.pages.specs.declared.Place.the-variants.{Page, Outside}
@@ -24,7 +24,7 @@ moveTests (Page first) o list from start count =
     (refuses (not (owned o first count from)) WrongOwner
     ∷ refuses (meetsRun list start count) Mapped
     ∷ [])
-    Granted
+    (Granted first)
 
 -- first where the run lies, then whose its pages are, then whether one of them is mapped
 unfoldable pub moveVerdict : Window → List ℕ → List Mapping → ℕ → ℕ → ℕ → Verdict
@@ -35,33 +35,14 @@ unfoldable pub severalVerdict : Window → List ℕ → List Mapping → ℕ →
 severalVerdict w o list from start count =
     sieve No (refuses (eqb count 0) NoPages ∷ []) (moveVerdict w o list from start count)
 
--- the whole run is given, or nothing where it does not lie in the window
-unfoldable pub carriedTo : Place → List ℕ → ℕ → ℕ → List ℕ
-carriedTo Outside o count to = o
-carriedTo (Page first) o count to = given o first count to
-
-unfoldable pub carried : Window → List ℕ → ℕ → ℕ → ℕ → List ℕ
-carried w o start count to = carriedTo (runOf w start count) o count to
-
 -- ---- how the code's branches meet these
 module _ (k l : Place) (o : List ℕ) (list : List Mapping) (from start count : ℕ) (r : Verdict) (same : k ≡ l) where
   pub not-there : k ≡ Outside → r ≡ No Invalid → r ≡ moveTests l o list from start count
   unfolding moveTests
   not-there e h = rw (← same, e) h
 
-  pub there : (first : ℕ) → k ≡ Page first → r ≡ sieve No (refuses (not (owned o first count from)) WrongOwner ∷ refuses (meetsRun list start count) Mapped ∷ []) Granted → r ≡ moveTests l o list from start count
+  pub there : (first : ℕ) → k ≡ Page first → r ≡ sieve No (refuses (not (owned o first count from)) WrongOwner ∷ refuses (meetsRun list start count) Mapped ∷ []) (Granted first) → r ≡ moveTests l o list from start count
   unfolding moveTests
   there first e h = rw (← same, e) h
 
 pub ruleset moves = (not-there, there, contraries)
-
-module _ (k l : Place) (o o′ : List ℕ) (count to : ℕ) (same : k ≡ l) where
-  pub stays : k ≡ Outside → o′ ≡ o → o′ ≡ carriedTo l o count to
-  unfolding carriedTo
-  stays e h = rw (← same, e) h
-
-  pub goes-to : (first : ℕ) → k ≡ Page first → o′ ≡ given o first count to → o′ ≡ carriedTo l o count to
-  unfolding carriedTo
-  goes-to first e h = rw (← same, e) h
-
-pub ruleset carries = (stays, goes-to)

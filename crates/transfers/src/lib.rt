@@ -1,7 +1,7 @@
-// A run of pages changes its owner, or nothing does.
+// Whether a run of pages may change its owner, and which run it is.
 ghost use mathlib.Core.Path.{_≡_};
 ghost use Rattle.mapping.specs.Lists.{held};
-ghost use Rattle.transfers.specs.Transfer.{moveVerdict, severalVerdict, carried};
+ghost use Rattle.transfers.specs.Transfer.{moveVerdict, severalVerdict};
 use mapping::Lists;
 use pages::Owners;
 use pages::Place;
@@ -9,7 +9,8 @@ use pages::Window;
 use rules::Reason;
 
 pub enum Verdict {
-    Granted,
+    // the place of the run's first page in the window
+    Granted(u64),
     No(Reason),
 }
 
@@ -33,7 +34,7 @@ pub fn judge(
     if mapping::meets_run(lists, from, start, count) {
         return Verdict::No(Reason::Mapped);
     }
-    Verdict::Granted
+    Verdict::Granted(first)
 }
 
 // The same for the calls that name a count, which may be none.
@@ -51,14 +52,4 @@ pub fn judge_several(
         return Verdict::No(Reason::NoPages);
     }
     judge(w, owners, lists, from, start, count)
-}
-
-// The run goes to a world; where it is not in the window, nothing does.
-pub fn carry(w: Window, owners: &mut Owners, start: u64, count: u64, to: u64)
-    ensures { λ _. ⌜ now (owners .exit) ≡ carried w (now (owners .entry)) start count to ⌝ }
-{
-    let Place::Page(first) = w.run_of(start, count) else {
-        return;
-    };
-    pages::give(owners, first, count, to);
 }

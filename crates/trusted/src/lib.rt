@@ -2,29 +2,29 @@
 ghost use mathlib.Core.Path.{_≡_};
 ghost use Rattle.judgements.specs.Judge.{handing, finishing, trusted};
 use judgements::Answer;
+use judgements::Caller;
 use judgements::Deed;
 use judgements::Judged;
-use judgements::Seen;
 use judgements::grant;
 use judgements::names;
 use judgements::refuse;
 use rules::Reason;
 
 // Normal hands the core over to another world.
-pub fn hand_over(to: u64, v: Seen) -> Judged
+pub fn hand_over(to: u64, v: Caller) -> Judged
     ensures { λ r. ⌜ r ≡ handing to v ⌝ }
 {
-    if v.caller != names::NORMAL {
+    if v.world != names::NORMAL {
         return refuse(Reason::Unserved);
     }
     grant(Answer::Silent, Deed::HandOver(to))
 }
 
 // The world that a core was handed to gives it back.
-pub fn finish(from: u64, v: Seen) -> Judged
+pub fn finish(from: u64, v: Caller) -> Judged
     ensures { λ r. ⌜ r ≡ finishing from v ⌝ }
 {
-    if v.caller != from {
+    if v.world != from {
         return refuse(Reason::Unserved);
     }
     if !v.is_open {
@@ -34,7 +34,7 @@ pub fn finish(from: u64, v: Seen) -> Judged
 }
 
 // A call that reaches handler 3: the finish by its one identifier, a hand-over by any other.
-pub fn trusted_call(v: Seen, key: u32) -> Judged
+pub fn trusted_call(v: Caller, key: u32) -> Judged
     ensures { λ r. ⌜ r ≡ trusted v key ⌝ }
 {
     if key == names::SECURE_FINISH {

@@ -1,4 +1,4 @@
--- `on_mask` meets its contract: the mask holds the cores from `core` on, and each turn puts the one below them under it.
+-- `on_mask` meets its contract: the mask holds the cores from `core` on, and each pass puts the one below them under it.
 use Rattle.cores.specs.Cores.{Masked, masks}
 use borrow.Author.Needs.{needs}
 use Rattle.cores.proofs.on_mask.Statement.{statement}

@@ -10,8 +10,8 @@ enum-told c = search needs
 enum-known-d : tie.Need-enum-known-d
 enum-known-d c = search needs
 
-carry-requires : tie.Need-carry-requires
-carry-requires c κs = search needs
+give-requires : tie.Need-give-requires
+give-requires c κs = search needs
 
 enum-known-d-2 : tie.Need-enum-known-d-2
 enum-known-d-2 c = search needs
@@ -34,8 +34,8 @@ start-requires c κs = search needs
 enum-told-2 : tie.Need-enum-told-2
 enum-told-2 c = search needs
 
-stop-requires : tie.Need-stop-requires
-stop-requires c κs = search needs
+go-off-requires : tie.Need-go-off-requires
+go-off-requires c κs = search needs
 
 enum-known-d-5 : tie.Need-enum-known-d-5
 enum-known-d-5 c = search needs
@@ -85,7 +85,7 @@ do-deed-spec =
     (tie.spec
     enum-told
     enum-known-d
-    carry-requires
+    give-requires
     enum-known-d-2
     hold-requires
     enum-known-d-3
@@ -93,7 +93,7 @@ do-deed-spec =
     enum-known-d-4
     start-requires
     enum-told-2
-    stop-requires
+    go-off-requires
     enum-known-d-5
     save-requires
     hand-over-requires

@@ -1,4 +1,4 @@
--- `is_same` meets its promise, since each turn takes one byte off those that are still to be compared.
+-- `is_same` meets its promise, since each pass takes one byte off those that are still to be compared.
 use mathlib.Core.Path.{_≡_}
 use Prim.Native.Nat.{_+_}
 use Rattle.rules.specs.Search.{all, all-goes, all-stops, all-ends}

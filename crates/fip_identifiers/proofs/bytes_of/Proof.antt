@@ -1,4 +1,4 @@
--- `bytes_of` meets its promise, since each turn fills one place more by the rule.
+-- `bytes_of` meets its promise, since each pass fills one place more by the rule.
 use Prim.Native.Nat.{_-_}
 use Rattle.hex.specs.Rows.{Filled, filling}
 use Rattle.fip_identifiers.specs.Identifiers.{byteAt, byte-at, filled-bytes}

@@ -1,4 +1,4 @@
--- `is_alike` meets its promise, since each turn takes one place off a run that is judged as a whole.
+-- `is_alike` meets its promise, since each pass takes one place off a run that is judged as a whole.
 use mathlib.Core.Path.{_≡_}
 use Prim.Native.Nat.{_+_}
 use Rattle.rules.specs.Search.{all, all-goes, all-stops, all-ends}

@@ -1,4 +1,4 @@
--- `put_run` meets its promise, since each turn puts one byte more behind those that stand there.
+-- `put_run` meets its promise, since each pass puts one byte more behind those that stand there.
 use Prim.Native.Nat.{_-_}
 use Rattle.fip_identifiers.specs.Identifiers.{Ran, running}
 use borrow.Author.Needs.{needs}

@@ -1,4 +1,4 @@
--- `put_bytes` meets its promise, since each turn lays one byte, and the bytes that are left, laid behind it, make the same of the space.
+-- `put_bytes` meets its promise, since each pass lays one byte, and the bytes that are left, laid behind it, make the same of the space.
 use mathlib.Core.Path.{_≡_}
 use Prim.Native.Nat.{_+_}
 use Rattle.rules.specs.Laid.{laid}

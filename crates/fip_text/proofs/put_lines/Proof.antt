@@ -1,4 +1,4 @@
--- `put_lines` meets its promise, since each turn puts one line more behind those that stand there.
+-- `put_lines` meets its promise, since each pass puts one line more behind those that stand there.
 use Rattle.fip_text.specs.Line.{Lined, lining}
 use borrow.Author.Needs.{needs}
 use Rattle.fip_text.proofs.put_lines.Statement.{statement}

@@ -31,8 +31,8 @@ make-call-requires c κs = search needs
 enum-known-frame-5 : tie.Need-enum-known-frame-5
 enum-known-frame-5 c = search needs
 
-bring-requires : tie.Need-bring-requires
-bring-requires c κs = search needs
+make-arrival-requires : tie.Need-make-arrival-requires
+make-arrival-requires c κs = search needs
 
 enum-known-frame-6 : tie.Need-enum-known-frame-6
 enum-known-frame-6 c = search needs
@@ -68,7 +68,7 @@ step-spec =
     enum-known-frame-4
     make-call-requires
     enum-known-frame-5
-    bring-requires
+    make-arrival-requires
     enum-known-frame-6
     returns
     returns-2

@@ -1,4 +1,4 @@
--- `hex::all_digits` meets its promise: each turn passes a sign whose mark is a digit's, and the first other ends it.
+-- `hex::all_digits` meets its promise: each pass passes a sign whose mark is a digit's, and the first other ends it.
 use Prim.Native.Nat.{_≤_, _-_}
 use borrow.Author.Needs.{needs}
 use lib.ListN.{length}

@@ -1,4 +1,4 @@
--- `hex::number` meets its promise: each turn takes in one sign more, and sixteen fit 64 bits.
+-- `hex::number` meets its promise: each pass takes in one sign more, and sixteen fit 64 bits.
 use Prim.Native.Nat.{_-_}
 use borrow.Author.Needs.{needs}
 use Rattle.hex.specs.Read.{Read, reading}

@@ -1,4 +1,4 @@
--- `hex_read::marks_of` meets its promise: each turn takes in one sign more, its mark and whether it is a digit.
+-- `hex_read::marks_of` meets its promise: each pass takes in one sign more, its mark and whether it is a digit.
 use Prim.Native.Nat.{_-_}
 use borrow.Author.Needs.{needs}
 use Rattle.hex_read.specs.Many.{Scanned, scanning}

@@ -1,4 +1,4 @@
--- `hex_write::put_eight` meets its promise: each turn puts the lowest byte that is left behind those that stand there.
+-- `hex_write::put_eight` meets its promise: each pass puts the lowest byte that is left behind those that stand there.
 use Prim.Native.Nat.{_-_}
 use borrow.Author.Needs.{needs}
 use Rattle.hex_write.specs.Bytes.{Lower, lowering}

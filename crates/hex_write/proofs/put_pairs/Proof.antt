@@ -1,4 +1,4 @@
--- `hex_write::put_pairs` meets its promise: each turn puts the signs of one byte more behind those that stand there.
+-- `hex_write::put_pairs` meets its promise: each pass puts the signs of one byte more behind those that stand there.
 use Prim.Native.Nat.{_-_}
 use borrow.Author.Needs.{needs}
 use Rattle.hex_write.specs.Digits.{Put, putting}

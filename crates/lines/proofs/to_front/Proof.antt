@@ -1,4 +1,4 @@
--- `lines::to_front` meets its promise: each turn moves one byte, from behind or from its own place, so none is lost before it is read.
+-- `lines::to_front` meets its promise: each pass moves one byte, from behind or from its own place, so none is lost before it is read.
 use Prim.Native.Nat.{_≤_, _-_}
 use borrow.Author.Needs.{needs}
 use Rattle.lines.specs.Front.{Moving, moving-none, moving-more, front-order, front-past, front-done}

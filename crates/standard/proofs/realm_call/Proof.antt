@@ -1,6 +1,6 @@
--- Each arm of `realm_call` is reached by the key that `realms` picks it for.
+-- Each arm of `realm_call` is reached by the key that `realmCall` picks it for.
 use borrow.Author.Needs.{needs}
-use Rattle.judgements.specs.Judge.{realms}
+use Rattle.judgements.specs.Judge.{realmCall}
 use Rattle.rules.specs.Tests.{contraries}
 use Rattle.standard.proofs.realm_call.Statement.{statement}
 use Rattle.standard.proofs.realm_call.Tie as tie
@@ -14,23 +14,23 @@ granule-out-requires c κs = search needs
 finish-requires : tie.Need-finish-requires
 finish-requires c κs = search needs
 
-ranged-call-requires : tie.Need-ranged-call-requires
-ranged-call-requires c κs = search needs
+hand-to-realm-requires : tie.Need-hand-to-realm-requires
+hand-to-realm-requires c κs = search needs
 
 returns : tie.Need-returns
-unfolding realms
+unfolding realmCall
 returns c = search contraries depth 20
 
 returns-2 : tie.Need-returns-2
-unfolding realms
+unfolding realmCall
 returns-2 c = search contraries depth 20
 
 returns-3 : tie.Need-returns-3
-unfolding realms
+unfolding realmCall
 returns-3 c = search contraries depth 20
 
 returns-4 : tie.Need-returns-4
-unfolding realms
+unfolding realmCall
 returns-4 c = search contraries depth 20
 
 pub realm-call-spec : {M : Type 1} → statement M
@@ -40,7 +40,7 @@ realm-call-spec =
     granule-in-requires
     granule-out-requires
     finish-requires
-    ranged-call-requires
+    hand-to-realm-requires
     returns
     returns-2
     returns-3

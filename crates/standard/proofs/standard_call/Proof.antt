@@ -8,8 +8,8 @@ use Rattle.standard.proofs.standard_call.Tie as tie
 power-version-requires : tie.Need-power-version-requires
 power-version-requires c κs = search needs
 
-stop-core-requires : tie.Need-stop-core-requires
-stop-core-requires c κs = search needs
+go-off-requires : tie.Need-go-off-requires
+go-off-requires c κs = search needs
 
 start-core-requires : tie.Need-start-core-requires
 start-core-requires c κs = search needs
@@ -17,11 +17,11 @@ start-core-requires c κs = search needs
 start-core-requires-2 : tie.Need-start-core-requires-2
 start-core-requires-2 c κs = search needs
 
-state-core-requires : tie.Need-state-core-requires
-state-core-requires c κs = search needs
+tell-state-requires : tie.Need-tell-state-requires
+tell-state-requires c κs = search needs
 
-state-core-requires-2 : tie.Need-state-core-requires-2
-state-core-requires-2 c κs = search needs
+tell-state-requires-2 : tie.Need-tell-state-requires-2
+tell-state-requires-2 c κs = search needs
 
 power-features-requires : tie.Need-power-features-requires
 power-features-requires c κs = search needs
@@ -66,11 +66,11 @@ standard-call-spec =
     tie.close
     (tie.spec
     power-version-requires
-    stop-core-requires
+    go-off-requires
     start-core-requires
     start-core-requires-2
-    state-core-requires
-    state-core-requires-2
+    tell-state-requires
+    tell-state-requires-2
     power-features-requires
     realm-call-requires
     returns

@@ -1,4 +1,4 @@
--- `package` ends and stays in its bounds, since each turn makes one of the entries that are left.
+-- `package` ends and stays in its bounds, since each pass makes one of the entries that are left.
 use Prim.Native.Nat.{_-_, _≤_}
 use borrow.Author.Needs.{needs}
 use Rattle.fip_read_run.proofs.packs.package.Statement.{statement}

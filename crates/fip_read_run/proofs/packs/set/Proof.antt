@@ -1,4 +1,4 @@
--- `set` ends and stays in its bounds, since each turn sets one of the bytes that are left.
+-- `set` ends and stays in its bounds, since each pass sets one of the bytes that are left.
 use Prim.Native.Nat.{_-_, _≤_}
 use borrow.Author.Needs.{needs}
 use Rattle.fip_read_run.proofs.packs.set.Statement.{statement}

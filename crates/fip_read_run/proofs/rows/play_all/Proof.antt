@@ -1,4 +1,4 @@
--- `play_all` ends and stays in its bounds, since each turn takes one of the bytes that are left.
+-- `play_all` ends and stays in its bounds, since each pass takes one of the bytes that are left.
 use Prim.Native.Nat.{_-_, _≤_}
 use lib.ListN.{length}
 use borrow.Author.Needs.{needs}

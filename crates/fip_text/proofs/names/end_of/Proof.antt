@@ -1,4 +1,4 @@
--- `names::end_of` meets its promise, since each turn takes one place off a search for the first dot.
+-- `names::end_of` meets its promise, since each pass takes one place off a search for the first dot.
 use mathlib.Core.Path.{_≡_}
 use Prim.Native.Nat.{_+_, _≤_}
 use borrow.Author.Tests.{eq-eqb, ne-eqb}

@@ -1,4 +1,4 @@
--- `names::row_of` meets its promise, since each turn takes one row off a search for the first.
+-- `names::row_of` meets its promise, since each pass takes one row off a search for the first.
 use mathlib.Core.Path.{_≡_}
 use Prim.Native.Nat.{_+_}
 use Rattle.rules.specs.Search.{first, first-goes, first-stops, first-ends}

@@ -1,4 +1,4 @@
--- `pieces::put_text` meets its promise, since each turn lays one byte more behind those that stand there.
+-- `pieces::put_text` meets its promise, since each pass lays one byte more behind those that stand there.
 use Prim.Native.Nat.{_-_}
 use lib.ListN.{length}
 use Rattle.fip_text.specs.Pieces.{Copied, copying}

@@ -1,4 +1,4 @@
--- `put_images` meets its promise, since each turn lays one image, and the images that are left, laid behind it, make the same of the space.
+-- `put_images` meets its promise, since each pass lays one image, and the images that are left, laid behind it, make the same of the space.
 use native.Mathlib.Omega.{arith}
 use Rattle.rules.specs.Laid.{laid}
 use Rattle.fip_table.specs.Table.{tableEnd}

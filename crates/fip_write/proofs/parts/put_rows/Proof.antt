@@ -1,4 +1,4 @@
--- `put_rows` meets its promise, since each turn lays one entry, and the entries that are left, laid behind it, make the same of the space.
+-- `put_rows` meets its promise, since each pass lays one entry, and the entries that are left, laid behind it, make the same of the space.
 use Prim.Native.Nat.{_+_, _*_}
 use native.Mathlib.Omega.{arith}
 use Rattle.rules.specs.Laid.{laid}

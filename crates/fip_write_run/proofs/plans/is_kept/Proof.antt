@@ -1,4 +1,4 @@
--- `is_kept` ends and stays in its bounds, since each turn looks at one of the bytes that are left.
+-- `is_kept` ends and stays in its bounds, since each pass looks at one of the bytes that are left.
 use Prim.Native.Nat.{_-_, _≤_}
 use lib.ListN.{length}
 use borrow.Author.Needs.{needs}

@@ -1,4 +1,4 @@
--- `many` ends and stays in its bounds, since each turn plans one of the images that are left.
+-- `many` ends and stays in its bounds, since each pass plans one of the images that are left.
 use Prim.Native.Nat.{_-_, _≤_}
 use borrow.Author.Needs.{needs}
 use Rattle.fip_write_run.proofs.plans.many.Statement.{statement}

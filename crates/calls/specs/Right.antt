@@ -15,18 +15,16 @@ use Rattle.cores.specs.declared.Power.{Power}
 use Rattle.cores.specs.declared.Turn.{Turn}
 use Rattle.rules.specs.Sizes.{lastWorld}
 use Rattle.pages.specs.Window.{acceptable}
-use Rattle.pages.specs.Owners.{WholeOwners, owner}
+use Rattle.pages.specs.Owners.{WholeOwners, owner, given, given-whole, given-worlds}
 use Rattle.mapping.specs.Lists.{WholeLists, holding-whole, released-whole, unmapped, unmapped-whole, held, held-unmapped, holding, holding-other, holding-inserts, released-other, released-takes}
 use Rattle.mapping.specs.Sound.{Sound, sound-none, granted-room, granted-formed, granted-keeps, without-keeps}
 use Rattle.ranges.specs.declared.Mapping.{Mapping}
-use Rattle.transfers.specs.Transfer.{moveVerdict, carried}
-use Rattle.transfers.specs.Kept.{carried-whole, carried-keeps, carried-worlds}
-use Rattle.transfers.specs.declared.Verdict.the-variants as Moving
+use Rattle.transfers.specs.Granted.{Movable, move-granted, moved-keeps}
 use Rattle.judgements.specs.Names.{secure, normal, realm}
 use Rattle.judgements.specs.Grounds.{Takes, Calls, Between, Grounds, grounded}
 use Rattle.judgements.specs.Grounds.Between.{toCaller, toNormal}
 use Rattle.judgements.specs.declared.Deed.{Deed}
-use Rattle.judgements.specs.declared.Deed.the-variants.{Nothing, Move, Map, Unmap, Start, Stop, HandOver, Finish}
+use Rattle.judgements.specs.declared.Deed.the-variants.{Nothing, Move, Map, Unmap, Start, GoOff, HandOver, Finish}
 use Rattle.answers.specs.Laws.{answered-whole}
 use Rattle.deeds.specs.Deeds.{Tables, withOwners, withSaved, withPowers, withTurns, withLists}
 use Rattle.calls.specs.Step.{State, state, sight, callerOf, tablesOf, withTables, carriedIn, applied, called}
@@ -34,7 +32,7 @@ use Rattle.calls.specs.declared.Site.{Site}
 use Rattle.calls.specs.Effects.{deedIn, answerIn, after, afterArrival, arrival-by, WholeTables}
 
 -- what a core runs, beside its power: Normal with nothing open, or Secure or Realm, where the core is ON and a hand-over is open
-pub record Seated (t : Turn) (p : Power) : Type 0 where
+pub record Running (t : Turn) (p : Power) : Type 0 where
   pub world : Calls (t .world)
   pub home : t .world ≡ normal → t .is_open ≡ false
   pub away : (t .world ≡ normal → ⊥) → (t .is_open ≡ true) × (isOn p ≡ true)
@@ -49,25 +47,25 @@ pub record Right (s : State) : Type 0 where
   pub worlds : (page : ℕ) → owner (s .owners) page ≤ lastWorld
   -- each world's mappings are well formed, apart, and of pages that the world owns
   pub sound : (world : ℕ) → Sound (s .site .window) (s .owners) world (held (s .lists) world)
-  pub seated : (core : ℕ) → core < 8 → Seated (turn (s .turns) core) (power (s .powers) core)
+  pub running : (core : ℕ) → core < 8 → Running (turn (s .turns) core) (power (s .powers) core)
   -- there is no core past the count
   pub absent : (core : ℕ) → s .site .cores ≤ core → power (s .powers) core .state ≡ off
 
 -- ---- what a core's turn allows its power to become
-module _ (t : Turn) (p : Power) (h : Seated t p) (q : Power) where
+module _ (t : Turn) (p : Power) (h : Running t p) (q : Power) where
   -- Normal may run at any power
-  home-seated : t .world ≡ normal → Seated t q
-  home-seated e = record { world = h .world; home = h .home; away = λ n. absurd (n e) }
+  home-running : t .world ≡ normal → Running t q
+  home-running e = record { world = h .world; home = h .home; away = λ n. absurd (n e) }
 
   -- a core that is not ON runs Normal
-  off-seated : isOn p ≡ false → Seated t q
-  off-seated e = record { world = h .world; home = h .home; away = λ n. absurd (yes-or-no _ (h .away n .1) e) }
+  off-running : isOn p ≡ false → Running t q
+  off-running e = record { world = h .world; home = h .home; away = λ n. absurd (yes-or-no _ (h .away n .1) e) }
 
-normal-seated : (p : Power) → Seated (turnOf normal false) p
-normal-seated p = record { world = inl refl; home = λ e. refl; away = λ n. absurd (n refl) }
+normal-running : (p : Power) → Running (turnOf normal false) p
+normal-running p = record { world = inl refl; home = λ e. refl; away = λ n. absurd (n refl) }
 
-handed-seated : (to : ℕ) (p : Power) → Takes to → isOn p ≡ true → Seated (turnOf to true) p
-handed-seated to p t o =
+handed-running : (to : ℕ) (p : Power) → Takes to → isOn p ≡ true → Running (turnOf to true) p
+handed-running to p t o =
     record {
       world = inr t;
       home = λ e. ⊎-elim (λ (y : to ≡ secure). absurd (omega arith)) (λ (y : to ≡ realm). absurd (omega arith)) t;
@@ -92,48 +90,48 @@ on-exists s r core e =
 module _ (s : State) (r : Right s) where
   right-with : (t : Tables) → WholeTables (withTables s t) → ((page : ℕ) → owner (t .owners) page ≤ lastWorld)
       → ((world : ℕ) → Sound (s .site .window) (t .owners) world (held (t .lists) world))
-      → ((core : ℕ) → core < 8 → Seated (turn (t .turns) core) (power (t .powers) core))
+      → ((core : ℕ) → core < 8 → Running (turn (t .turns) core) (power (t .powers) core))
       → ((core : ℕ) → s .site .cores ≤ core → power (t .powers) core .state ≡ off)
       → Right (withTables s t)
-  right-with t whole worlds sound seated absent =
-      record { window = r .window; some-cores = r .some-cores; most-cores = r .most-cores; whole = whole; worlds = worlds; sound = sound; seated = seated; absent = absent }
+  right-with t whole worlds sound running absent =
+      record { window = r .window; some-cores = r .some-cores; most-cores = r .most-cores; whole = whole; worlds = worlds; sound = sound; running = running; absent = absent }
 
   right-owners : (o : List ℕ) → WholeOwners o → ((page : ℕ) → owner o page ≤ lastWorld) → ((world : ℕ) → Sound (s .site .window) o world (held (s .lists) world))
       → Right (withTables s (withOwners (tablesOf s) o))
   right-owners o h worlds sound =
       right-with (withOwners (tablesOf s) o)
       (record { owners-whole = h; saved-whole = r .whole .saved-whole; powers-whole = r .whole .powers-whole; turns-whole = r .whole .turns-whole; lists-whole = r .whole .lists-whole })
-      worlds sound (r .seated) (r .absent)
+      worlds sound (r .running) (r .absent)
 
   right-saved : (n : List ℕ) → Whole n → Right (withTables s (withSaved (tablesOf s) n))
   right-saved n h =
       right-with (withSaved (tablesOf s) n)
       (record { owners-whole = r .whole .owners-whole; saved-whole = h; powers-whole = r .whole .powers-whole; turns-whole = r .whole .turns-whole; lists-whole = r .whole .lists-whole })
-      (r .worlds) (r .sound) (r .seated) (r .absent)
+      (r .worlds) (r .sound) (r .running) (r .absent)
 
   right-lists : (m : List ℕ) → WholeLists m → ((world : ℕ) → Sound (s .site .window) (s .owners) world (held m world)) → Right (withTables s (withLists (tablesOf s) m))
   right-lists m h sound =
       right-with (withLists (tablesOf s) m)
       (record { owners-whole = r .whole .owners-whole; saved-whole = r .whole .saved-whole; powers-whole = r .whole .powers-whole; turns-whole = r .whole .turns-whole; lists-whole = h })
-      (r .worlds) sound (r .seated) (r .absent)
+      (r .worlds) sound (r .running) (r .absent)
 
   -- one core's power: what the core runs has to be able to run at it
-  right-power : (k : ℕ) (p : Power) → k < s .site .cores → (Seated (turn (s .turns) k) (power (s .powers) k) → Seated (turn (s .turns) k) (power (withPower (s .powers) k p) k))
+  right-power : (k : ℕ) (p : Power) → k < s .site .cores → (Running (turn (s .turns) k) (power (s .powers) k) → Running (turn (s .turns) k) (power (withPower (s .powers) k p) k))
       → Right (withTables s (withPowers (tablesOf s) (withPower (s .powers) k p)))
   right-power k p exists may =
       right-with (withPowers (tablesOf s) (withPower (s .powers) k p))
       (record { owners-whole = r .whole .owners-whole; saved-whole = r .whole .saved-whole; powers-whole = with-power-whole _ k p (r .whole .powers-whole); turns-whole = r .whole .turns-whole; lists-whole = r .whole .lists-whole })
       (r .worlds) (r .sound)
-      (λ c h. same-or-other c k (λ e. rw e (may (rw e at (r .seated c h)))) (λ n. rw (power-other (s .powers) k p c n) (r .seated c h)))
+      (λ c h. same-or-other c k (λ e. rw e (may (rw e at (r .running c h)))) (λ n. rw (power-other (s .powers) k p c n) (r .running c h)))
       (λ c h. rw (power-other (s .powers) k p c (λ e. omega arith)) (r .absent c h))
 
   -- what one core runs
-  right-turn : (k : ℕ) (t : Turn) → k < 8 → Seated t (power (s .powers) k) → Right (withTables s (withTurns (tablesOf s) (withTurn (s .turns) k t)))
+  right-turn : (k : ℕ) (t : Turn) → k < 8 → Running t (power (s .powers) k) → Right (withTables s (withTurns (tablesOf s) (withTurn (s .turns) k t)))
   right-turn k t inside may =
       right-with (withTurns (tablesOf s) (withTurn (s .turns) k t))
       (record { owners-whole = r .whole .owners-whole; saved-whole = r .whole .saved-whole; powers-whole = r .whole .powers-whole; turns-whole = with-turn-whole _ k t (r .whole .turns-whole); lists-whole = r .whole .lists-whole })
       (r .worlds) (r .sound)
-      (λ c h. same-or-other c k (λ e. rw (e, turn-same (s .turns) k t (r .whole .turns-whole) inside) may) (λ n. rw (turn-other (s .turns) k t c n) (r .seated c h)))
+      (λ c h. same-or-other c k (λ e. rw (e, turn-same (s .turns) k t (r .whole .turns-whole) inside) may) (λ n. rw (turn-other (s .turns) k t c n) (r .running c h)))
       (r .absent)
 
 -- ---- a deed that has its grounds, done for a core that is ON
@@ -142,18 +140,18 @@ module _ (s : State) (r : Right s) (core : ℕ) (ready : isOn (power (s .powers)
   inside = let h = on-exists s r core ready in omega (arith, r .most-cores)
 
   -- giver and taker hold the lists that the judgement looked at
-  move-sound : (start count from to : ℕ) (list : List Mapping) → Between (sight s core .view) from to list
-      → moveVerdict (s .site .window) (s .owners) list from start count ≡ Moving.Granted
-      → (world : ℕ) → Sound (s .site .window) (carried (s .site .window) (s .owners) start count to) world (held (s .lists) world)
-  move-sound start count from to list toCaller v = carried-keeps (s .site .window) (s .owners) (held (s .lists)) normal start count _ (r .window) v (r .sound)
-  move-sound start count from to list toNormal v = carried-keeps (s .site .window) (s .owners) (held (s .lists)) (callerOf s core) start count normal (r .window) v (r .sound)
+  move-sound : (start count first from to : ℕ) (list : List Mapping) → Between (sight s core .inner) from to list
+      → Movable (s .site .window) (s .owners) list from start count first
+      → (world : ℕ) → Sound (s .site .window) (given (s .owners) first count to) world (held (s .lists) world)
+  move-sound start count first from to list toCaller m = moved-keeps (s .site .window) (s .owners) (held (s .lists)) normal start count first _ (r .window) m (r .sound)
+  move-sound start count first from to list toNormal m = moved-keeps (s .site .window) (s .owners) (held (s .lists)) (callerOf s core) start count first normal (r .window) m (r .sound)
 
-  deed-right : (d : Deed) → Grounds (sight s core .view) d → (xs : List ℕ) → Right (carriedIn d s core (callerOf s core) xs)
+  deed-right : (d : Deed) → Grounds (sight s core .inner) d → (xs : List ℕ) → Right (carriedIn d s core (callerOf s core) xs)
   deed-right Nothing g xs = r
-  deed-right (Move start count to) g xs =
-      right-owners s r _ (carried-whole _ _ start count to (r .whole .owners-whole))
-      (carried-worlds (s .site .window) (s .owners) start count to (r .whole .owners-whole) (r .worlds))
-      (move-sound start count (g .from) to (g .list) (g .between) (g .verdict))
+  deed-right (Move first count to) g xs =
+      right-owners s r _ (given-whole _ first count to (r .whole .owners-whole))
+      (given-worlds (s .owners) first count to (r .whole .owners-whole) (r .worlds))
+      (move-sound (g .start) count first (g .from) to (g .list) (g .between) (move-granted _ _ _ _ _ _ _ (g .verdict)))
   deed-right (Map m) g xs =
       right-lists s r _ (holding-whole _ (callerOf s core) m (r .whole .lists-whole))
       (λ world. same-or-other world (callerOf s core)
@@ -170,10 +168,10 @@ module _ (s : State) (r : Right s) (core : ℕ) (ready : isOn (power (s .powers)
       (λ e. rw (e, released-takes (s .lists) (callerOf s core) virt size (r .whole .lists-whole))
       (without-keeps (s .site .window) (s .owners) (callerOf s core) (held (s .lists) (callerOf s core)) virt size (r .sound (callerOf s core))))
       (λ n. rw (released-other (s .lists) (callerOf s core) virt size world n) (r .sound world)))
-  deed-right (Start k a x) g xs = right-power s r k _ (g .exists) (λ t. off-seated _ _ t _ (g .not-on))
-  deed-right Stop g xs = right-power s r core _ (on-exists s r core ready) (λ t. home-seated _ _ t _ g)
-  deed-right (HandOver to) g xs = right-turn _ (right-saved s r _ (saving-whole _ core to xs (r .whole .saved-whole))) core _ inside (handed-seated to _ (g .1) ready)
-  deed-right Finish g xs = right-turn _ (right-saved s r _ (saving-whole _ core normal _ (r .whole .saved-whole))) core _ inside (normal-seated _)
+  deed-right (Start k a x) g xs = right-power s r k _ (g .exists) (λ t. off-running _ _ t _ (g .not-on))
+  deed-right GoOff g xs = right-power s r core _ (on-exists s r core ready) (λ t. home-running _ _ t _ g)
+  deed-right (HandOver to) g xs = right-turn _ (right-saved s r _ (saving-whole _ core to xs (r .whole .saved-whole))) core _ inside (handed-running to _ (g .1) ready)
+  deed-right Finish g xs = right-turn _ (right-saved s r _ (saving-whole _ core normal _ (r .whole .saved-whole))) core _ inside (normal-running _)
 
 -- ---- the two steps
 module _ (s : State) (r : Right s) (core : ℕ) where
@@ -191,8 +189,8 @@ module _ (s : State) (r : Right s) (core : ℕ) where
       arrival-by s core Right r
       (λ y. let was : power (s .powers) core .state ≡ pending = eqb-true (power (s .powers) core .state) pending y in
       let exists : core < s .site .cores = either (ltb core (s .site .cores)) (ltb-true _ _) (λ n. let a = r .absent core (ltb-false _ _ n) in absurd (omega arith)) in
-      right-turn _ (right-power _ (right-saved s r _ (saving-whole _ core normal _ (r .whole .saved-whole))) core _ exists (λ t. off-seated _ _ t _ (rw was)))
-      core _ (omega (arith, r .most-cores)) (normal-seated _))
+      right-turn _ (right-power _ (right-saved s r _ (saving-whole _ core normal _ (r .whole .saved-whole))) core _ exists (λ t. off-running _ _ t _ (rw was)))
+      core _ (omega (arith, r .most-cores)) (normal-running _))
 
 -- ---- the start
 -- The state that set-up leaves is right: no number saved, core 0 ON in Normal, the others OFF, and no mapping.
@@ -212,6 +210,6 @@ first-right w l o ok some most h f =
       };
       worlds = f;
       sound = λ world. rw (held-unmapped world) (sound-none (w .window) o world);
-      seated = λ core k. rw (first-turn core k) (normal-seated _);
+      running = λ core k. rw (first-turn core k) (normal-running _);
       absent = λ core k. rw (first-power-other core (λ e. omega arith));
     }

@@ -1,0 +1,77 @@
+-- What a granted transfer says of its run, and what it leaves: the owner of each page, and the mappings of every world.
+use mathlib.Core.Path.{_≡_, refl}
+use mathlib.Core.Bool.{true, false}
+use mathlib.Core.List.{List, [], _∷_}
+use Prim.Native.Nat.{ℕ, _+_, _≤_, _<_}
+use native.Mathlib.Omega.{arith}
+use lib.Dec.{eqb}
+use borrow.Author.Tests.{eqb-false, not-false}
+use Rattle.rules.specs.Tests.{Test, Clear, refuses, sieve, sieved}
+use Rattle.rules.specs.declared.Reason.{Reason}
+use Rattle.rules.specs.declared.Reason.the-variants.{NoPages}
+use Rattle.rules.specs.Sizes.{lastWorld, mostPages}
+use Rattle.pages.specs.Window.{acceptable, runOf}
+use Rattle.pages.specs.Owners.{WholeOwners, owner, owned, given, owned-at, owned-ends, given-inside}
+use Rattle.pages.specs.declared.Window.{Window}
+use Rattle.pages.specs.declared.Place.{Place}
+use Rattle.pages.specs.declared.Place.the-variants.{Page, Outside}
+use Rattle.mapping.specs.Mapping.{meetsRun}
+use Rattle.mapping.specs.Sound.{Sound, unmet-run, given-keeps}
+use Rattle.ranges.specs.declared.Mapping.{Mapping}
+use Rattle.transfers.specs.Transfer.{moveTests, moveVerdict, severalVerdict}
+use Rattle.transfers.specs.declared.Verdict.{Verdict}
+use Rattle.transfers.specs.declared.Verdict.the-variants.{Granted, No}
+
+-- ---- what a granted verdict says
+
+-- a run that may move: it lies in the window from its first page on, the giver owns all of it, and has mapped none of it
+pub record Movable (w : Window) (o : List ℕ) (list : List Mapping) (from start count first : ℕ) : Type 0 where
+  pub lies : runOf w start count ≡ Page first
+  pub mine : owned o first count from ≡ true
+  pub unmet : meetsRun list start count ≡ false
+
+-- where the outcome is a grant, no test held, and the outcome that was to stand is that grant
+passes : (ts : List (Test Reason)) (v : Verdict) (first : ℕ) → sieve No ts v ≡ Granted first → Clear ts × (v ≡ Granted first)
+passes ts v first =
+    sieved (λ (r : Verdict). r ≡ Granted first → Clear ts × (v ≡ Granted first)) No ts v
+    (λ r z. let y : _≡_ {A = ℕ} 0 1 = cc in absurd (omega arith)) (λ c z. (c, z))
+
+module _ (w : Window) (o : List ℕ) (list : List Mapping) (from start count first : ℕ) where
+  there-granted : (k : Place) → runOf w start count ≡ k → moveTests k o list from start count ≡ Granted first → Movable w o list from start count first
+  unfolding moveTests Clear
+  there-granted (Page page) e g =
+      let c = passes _ (Granted page) first g in
+      let y : page ≡ first = cc in
+      record { lies = rw (← y) e; mine = rw (← y) (not-false _ (c .0 .0)); unmet = c .0 .1 .0 }
+  there-granted Outside e g = let y : _≡_ {A = ℕ} 0 1 = cc in absurd (omega arith)
+
+  pub move-granted : moveVerdict w o list from start count ≡ Granted first → Movable w o list from start count first
+  unfolding moveVerdict
+  move-granted g = there-granted (runOf w start count) refl g
+
+  pub several-granted : severalVerdict w o list from start count ≡ Granted first → (moveVerdict w o list from start count ≡ Granted first) × (count ≡ 0 → ⊥)
+  unfolding severalVerdict Clear
+  several-granted g =
+      let c = passes (refuses (eqb count 0) NoPages ∷ []) (moveVerdict w o list from start count) first g in (c .1, eqb-false _ _ (c .0 .0))
+
+  -- ---- the owners after a transfer
+  module _ (m : Movable w o list from start count first) (page : ℕ) where
+    -- a page of the run was the giver's, and is the receiver's; any other page keeps its owner (`given-outside`)
+    pub moved-from : first ≤ page → page < first + count → owner o page ≡ from
+    moved-from h l = owned-at o first count from page (m .mine) h l
+
+    pub moved-to : (to : ℕ) → WholeOwners o → to ≤ lastWorld → first ≤ page → page < first + count → owner (given o first count to) page ≡ to
+    moved-to to k t h l =
+        let b : first + count ≤ mostPages = owned-ends o first count from (m .mine) (omega arith) in
+        given-inside o first count to page k t b h l
+
+-- ---- the mappings after a granted transfer: no page that a world has mapped is another's.
+-- The giver has mapped no page of the run, and what another world has mapped is its own, where the run is the giver's.
+pub moved-keeps :
+    (w : Window) (o : List ℕ) (lists : ℕ → List Mapping) (from start count first to : ℕ) →
+    acceptable w ≡ true →
+    Movable w o (lists from) from start count first →
+    ((world : ℕ) → Sound w o world (lists world)) →
+    (world : ℕ) → Sound w (given o first count to) world (lists world)
+moved-keeps w o lists from start count first to ok m s world =
+    given-keeps w o lists first count from to (m .mine) (unmet-run w (lists from) start count first ok (m .lies) (m .unmet)) s world
