@@ -32,6 +32,9 @@ written p (Count n) = n ∷ []
 written p Silent = []
 written p (No r) = negative p (minus r) ∷ []
 
--- the frame's eight numbers, and over them the answer's results
+-- the frame's eight numbers, and over them the answer's results, of a call of these parts
+abbrev pub answeredBy : Parts → List ℕ → ℕ → ℕ → List ℕ → Answer → List ℕ
+answeredBy p r core caller xs a = saving (saving r core caller xs) core caller (written p a)
+
 abbrev pub answeredIn : List ℕ → ℕ → ℕ → List ℕ → Answer → List ℕ
-answeredIn r core caller xs a = saving (saving r core caller xs) core caller (written (calledBy xs) a)
+answeredIn r core caller xs a = answeredBy (calledBy xs) r core caller xs a

@@ -7,14 +7,12 @@ use native.Mathlib.Omega.{arith}
 use lib.ListN.{length, getD}
 use Rattle.rules.specs.Reasons.{minus}
 use Rattle.rules.specs.declared.Reason.{Reason}
-use Rattle.identifiers.specs.Identifier.{identifierOf, parts}
-use Rattle.identifiers.specs.declared.Identifier.{Identifier}
 use Rattle.identifiers.specs.declared.Parts.{Parts}
 use Rattle.registers.specs.Registers.{Whole, saved, saving, saving-none, saving-whole, saving-at, saving-past, saving-other}
 use Rattle.judgements.specs.Judge.{calledBy}
 use Rattle.judgements.specs.declared.Answer.{Answer}
 use Rattle.judgements.specs.declared.Answer.the-variants.{Version, PowerVersion, Done, On, Off, Pending, Owns, Leads, Count, Silent, No}
-use Rattle.answers.specs.Answers.{negative, bit, written, answeredIn}
+use Rattle.answers.specs.Answers.{negative, bit, written, answeredBy, answeredIn}
 
 -- ---- the code
 module _ (p : Parts) (a : Answer) (r r′ : List ℕ) (c w : ℕ) where
@@ -32,9 +30,8 @@ module _ (p : Parts) (a : Answer) (r r′ : List ℕ) (c w : ℕ) where
 
 pub ruleset answers = (writes-owns, writes-nothing, writes-no, writes)
 
-pub answered : (r q r′ xs : List ℕ) (c w : ℕ) (id : Identifier) (p : Parts) (a : Answer) (x0 : ℕ)
-    → q ≡ saving r c w xs → x0 ≡ getD xs 0 0 → id ≡ identifierOf x0 → p ≡ parts id → r′ ≡ saving q c w (written p a) → r′ ≡ answeredIn r c w xs a
-answered r q r′ xs c w id p a x0 e z f g h = rw (← z, ← f, ← g, ← e) h
+pub answered : (r q r′ xs : List ℕ) (c w : ℕ) (p : Parts) (a : Answer) → q ≡ saving r c w xs → r′ ≡ saving q c w (written p a) → r′ ≡ answeredBy p r c w xs a
+answered r q r′ xs c w p a e h = rw (← e) h
 
 -- ---- what an answer leaves
 written-few : (p : Parts) (a : Answer) → length (written p a) ≤ 3

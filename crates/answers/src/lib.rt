@@ -2,8 +2,7 @@
 ghost use mathlib.Core.Path.{_≡_};
 ghost use Rattle.registers.specs.Registers.{saving};
 ghost use Rattle.rules.specs.Reasons.{minus};
-ghost use Rattle.answers.specs.Answers.{negative, bit, written, answeredIn};
-use identifiers::Identifier;
+ghost use Rattle.answers.specs.Answers.{negative, bit, written, answeredBy};
 use identifiers::Parts;
 use judgements::Answer;
 use registers::Saved;
@@ -47,9 +46,9 @@ fn write_answer(t: &mut Saved, core: u64, world: u64, p: Parts, a: Answer)
 }
 
 // The frame's eight numbers, and over them the answer.
-pub fn answer_call(t: &mut Saved, core: u64, world: u64, x: &[u64; 8], a: Answer)
-    ensures { λ _. ⌜ now (t .exit) ≡ answeredIn (now (t .entry)) core world (now (x .entry)) a ⌝ }
+pub fn answer_call(t: &mut Saved, core: u64, world: u64, p: Parts, x: &[u64; 8], a: Answer)
+    ensures { λ _. ⌜ now (t .exit) ≡ answeredBy p (now (t .entry)) core world (now (x .entry)) a ⌝ }
 {
     registers::save(t, core, world, x);
-    write_answer(t, core, world, Identifier::of(x[0]).split(), a);
+    write_answer(t, core, world, p, a);
 }

@@ -6,9 +6,11 @@ use lib.Dec.{eqb}
 use Rattle.rules.specs.declared.Reason.{Reason}
 use Rattle.rules.specs.declared.Reason.the-variants as Reason
 use Rattle.pages.specs.Owners.{owner}
+use Rattle.pages.specs.declared.Window.{Window}
 use Rattle.pages.specs.declared.Place.{Place}
 use Rattle.pages.specs.declared.Place.the-variants.{Page, Outside}
 use Rattle.ranges.specs.declared.Mapping.{Mapping}
+use Rattle.mapping.specs.Mapping.{mapVerdict}
 use Rattle.mapping.specs.declared.Verdict.{Verdict}
 use Rattle.mapping.specs.declared.Verdict.the-variants as Verdict
 use Rattle.mapping.specs.declared.Lead.{Lead}
@@ -41,6 +43,9 @@ module _ (k l : Verdict) (m : Mapping) (r : Judged) (same : k ≡ l) where
   pub map-no : (q : Reason) → k ≡ Verdict.No q → r ≡ denied q → r ≡ mapping l m
   unfolding mapping
   map-no q e h = rw (← same, e) h
+
+pub map-for : (l : List Mapping) (o : List ℕ) (w : Window) (world : ℕ) (m n : Mapping) (r : Judged) → m ≡ n → r ≡ mapping (mapVerdict l o w world m) m → r ≡ mapping (mapVerdict l o w world n) n
+map-for l o w world m n r e h = rw (← e) h
 
 -- ---- where an address leads
 module _ (k l : Lead) (r : Judged) (same : k ≡ l) where

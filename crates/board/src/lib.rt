@@ -39,22 +39,23 @@ fn own_page(v: Caller, owners: &Owners, a: Args) -> Judged
     )
 }
 
-// Maps physical x1 at virtual x2, size x3, attributes x4.
-fn map_pages(v: Caller, owners: &Owners, lists: &Lists, a: Args) -> Judged
-    ensures { λ r. ⌜ r ≡ mappingBy (mapVerdict (held (now (lists .entry)) (v .world)) (now (owners .entry)) (v .window) (v .world) (wanted a)) (wanted a) ⌝ }
+// Maps what is wanted.
+fn map_wanted(v: Caller, owners: &Owners, lists: &Lists, m: Mapping) -> Judged
+    ensures { λ r. ⌜ r ≡ mappingBy (mapVerdict (held (now (lists .entry)) (v .world)) (now (owners .entry)) (v .window) (v .world) m) m ⌝ }
 {
-    let m = Mapping {
-        virt: a.x2,
-        phys: a.x1,
-        size: a.x3,
-        attr: a.x4,
-    };
     let w = v.window;
     match mapping::judge_map(lists, owners, w, v.world, m) {
         Verdict::Granted => grant(Answer::Done, Deed::Map(m)),
         Verdict::Nothing => grant(Answer::Done, Deed::Nothing),
         Verdict::No(r) => refuse(r),
     }
+}
+
+// Maps what the call wants.
+fn map_pages(v: Caller, owners: &Owners, lists: &Lists, a: Args) -> Judged
+    ensures { λ r. ⌜ r ≡ mappingBy (mapVerdict (held (now (lists .entry)) (v .world)) (now (owners .entry)) (v .window) (v .world) (wanted a)) (wanted a) ⌝ }
+{
+    map_wanted(v, owners, lists, a.wanted())
 }
 
 // Unmaps what the caller holds with exactly this start and size.

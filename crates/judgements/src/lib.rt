@@ -1,9 +1,10 @@
 // What a call is answered and what is done for it: the table of calls (specs/Judge.antt), its types and names, and the two ways a judgement ends.
 ghost use mathlib.Core.Path.{_≡_};
-ghost use Rattle.judgements.specs.Judge.{denied, granted};
+ghost use Rattle.judgements.specs.Judge.{wanted, denied, granted};
 
 pub mod names;
 
+use identifiers::Parts;
 use mapping::Mapping;
 use pages::Window;
 use rules::Reason;
@@ -62,12 +63,33 @@ pub struct Caller {
     pub window: Window,
 }
 
-// What a call reads of the caller's eight numbers.
+// The arguments of a call, as its width has them read.
 pub struct Args {
     pub x1: u64,
     pub x2: u64,
     pub x3: u64,
     pub x4: u64,
+}
+
+impl Args {
+    // The mapping that a call wants: physical x1 at virtual x2, size x3, attributes x4.
+    pub fn wanted(self) -> Mapping
+        ensures { λ m. ⌜ m ≡ wanted self ⌝ }
+    {
+        Mapping {
+            virt: self.x2,
+            phys: self.x1,
+            size: self.x3,
+            attr: self.x4,
+        }
+    }
+}
+
+// What a call reads of the caller's eight numbers.
+pub struct Request {
+    pub parts: Parts,
+    pub key: u32,
+    pub args: Args,
 }
 
 // A refusal changes nothing.

@@ -12,7 +12,8 @@ use Rattle.ledger.specs.declared.Lookup.{Lookup}
 use Rattle.ledger.specs.declared.Lookup.the-variants.{Handler, Nobody}
 use Rattle.judgements.specs.declared.Judged.{Judged}
 use Rattle.judgements.specs.declared.Args.{Args}
-use Rattle.judgements.specs.Judge.{HandlerSight, Sight, argsOf, judgedBy, judged, denied, found, byHandler}
+use Rattle.judgements.specs.declared.Request.{Request}
+use Rattle.judgements.specs.Judge.{HandlerSight, calledBy, argsOf, denied, found, byHandler}
 
 -- ---- what the ledger says
 module _ (s : HandlerSight) (a : Args) (key : ℕ) (k l : Lookup) (r : Judged) (same : k ≡ l) where
@@ -25,9 +26,11 @@ module _ (s : HandlerSight) (a : Args) (key : ℕ) (k l : Lookup) (r : Judged) (
   by-somebody h e g = rw (← same, e) g
 
 -- ---- the call that eight numbers make
-pub judged-is : (s : Sight) (xs : List ℕ) (id : Identifier) (p : Parts) (a : Args) (key : ℕ) (r : Judged)
-    → id ≡ identifierOf (getD xs 0 0) → p ≡ parts id → a ≡ argsOf p xs → key ≡ keyOf id → r ≡ judgedBy s p a key → r ≡ judged s xs
-unfolding judged
-judged-is s xs id p a key r i e f g h = rw (← i, ← e, ← f, ← g) h
+abbrev pub requestOf : List ℕ → Request
+requestOf xs = record { parts = calledBy xs; key = keyOf (identifierOf (getD xs 0 0)); args = argsOf (calledBy xs) xs }
+
+pub request-is : (xs : List ℕ) (id : Identifier) (p : Parts) (a : Args) (key : ℕ)
+    → id ≡ identifierOf (getD xs 0 0) → p ≡ parts id → a ≡ argsOf p xs → key ≡ keyOf id → record { parts = p; key = key; args = a } ≡ requestOf xs
+request-is xs id p a key i e f g = rw (g, f, e, i)
 
 pub ruleset lookups = (by-nobody, by-somebody, contraries)

@@ -2,7 +2,8 @@
 ghost use mathlib.Core.Path.{_≡_};
 ghost use Rattle.mapping.specs.Lists.{held};
 ghost use Rattle.judgements.specs.Names.{normal};
-ghost use Rattle.judgements.specs.Judge.{oneOf, callers, argsOf, handlerSight, sighted, byHandler, judgedBy, judged};
+ghost use Rattle.judgements.specs.Judge.{oneOf, callers, argsOf, handlerSight, sighted, byHandler, judgedBy};
+ghost use Rattle.judging.specs.Laws.{requestOf};
 use architecture::architecture_call;
 use board::board_call;
 use cores::Powers;
@@ -11,6 +12,7 @@ use identifiers::Parts;
 use judgements::Args;
 use judgements::Caller;
 use judgements::Judged;
+use judgements::Request;
 use judgements::names;
 use judgements::refuse;
 use ledger::Ledger;
@@ -66,44 +68,40 @@ fn by_handler(
     }
 }
 
-// Judges a call with these parts, arguments and key.
-fn judge_parts(
-    v: Caller,
-    book: &Ledger,
-    powers: &Powers,
-    owners: &Owners,
-    lists: &Lists,
-    p: Parts,
-    a: Args,
-    key: u32,
-) -> Judged
-    ensures { λ r. ⌜ r ≡ judgedBy (sighted (now (book .entry)) (handlerSight v (now (powers .entry)) (now (owners .entry)) (held (now (lists .entry)) (v .world)) (held (now (lists .entry)) normal))) p a key ⌝ }
+// What a call reads of the caller's eight numbers: its identifier is split here, and nowhere else.
+pub fn read_call(x: &[u64; 8]) -> Request
+    ensures { λ r. ⌜ r ≡ requestOf (now (x .entry)) ⌝ }
 {
-    if !may_call(v.world) {
-        return refuse(Reason::Unserved);
+    let id = Identifier::of(x[0]);
+    let parts = id.split();
+    let args = read_args(parts, x);
+    Request {
+        parts,
+        key: id.key(),
+        args,
     }
-    if !p.admitted() {
-        return refuse(Reason::Unserved);
-    }
-    let Lookup::Handler(h) = ledger::handler_of(book, p.fast, p.owner) else {
-        return refuse(Reason::Unserved);
-    };
-    by_handler(v, powers, owners, lists, a, key, h)
 }
 
-// Judges the call that the eight numbers make.
+// Judges a call.
 pub fn judge(
     v: Caller,
     book: &Ledger,
     powers: &Powers,
     owners: &Owners,
     lists: &Lists,
-    x: &[u64; 8],
+    q: Request,
 ) -> Judged
-    ensures { λ r. ⌜ r ≡ judged (sighted (now (book .entry)) (handlerSight v (now (powers .entry)) (now (owners .entry)) (held (now (lists .entry)) (v .world)) (held (now (lists .entry)) normal))) (now (x .entry)) ⌝ }
+    ensures { λ r. ⌜ r ≡ judgedBy (sighted (now (book .entry)) (handlerSight v (now (powers .entry)) (now (owners .entry)) (held (now (lists .entry)) (v .world)) (held (now (lists .entry)) normal))) (q .parts) (q .args) (q .key) ⌝ }
 {
-    let id = Identifier::of(x[0]);
-    let p = id.split();
-    let a = read_args(p, x);
-    judge_parts(v, book, powers, owners, lists, p, a, id.key())
+    if !may_call(v.world) {
+        return refuse(Reason::Unserved);
+    }
+    let p = q.parts;
+    if !p.admitted() {
+        return refuse(Reason::Unserved);
+    }
+    let Lookup::Handler(h) = ledger::handler_of(book, p.fast, p.owner) else {
+        return refuse(Reason::Unserved);
+    };
+    by_handler(v, powers, owners, lists, q.args, q.key, h)
 }

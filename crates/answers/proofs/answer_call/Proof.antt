@@ -7,15 +7,6 @@ use Rattle.answers.proofs.answer_call.Tie as tie
 save-requires : tie.Need-save-requires
 save-requires c κs = search needs
 
-element-copy-out-of : tie.Need-element-copy-out-of
-element-copy-out-of c = search needs
-
-of-requires : tie.Need-of-requires
-of-requires c κs = search needs
-
-split-requires : tie.Need-split-requires
-split-requires c κs = search needs
-
 write-answer-requires : tie.Need-write-answer-requires
 write-answer-requires c κs = search needs
 
@@ -27,8 +18,5 @@ answer-call-spec =
     tie.close
     (tie.spec
     save-requires
-    element-copy-out-of
-    of-requires
-    split-requires
     write-answer-requires
     returns)

@@ -7,6 +7,9 @@ use Rattle.calls.proofs.call.Tie as tie
 look-requires : tie.Need-look-requires
 look-requires c κs = search needs
 
+read-call-requires : tie.Need-read-call-requires
+read-call-requires c κs = search needs
+
 judge-requires : tie.Need-judge-requires
 judge-requires c κs = search needs
 
@@ -21,4 +24,4 @@ returns c = search stepped
 
 pub call-spec : {M : Type 1} → statement M
 call-spec =
-    tie.close (tie.spec look-requires judge-requires answer-call-requires do-deed-requires returns)
+    tie.close (tie.spec look-requires read-call-requires judge-requires answer-call-requires do-deed-requires returns)

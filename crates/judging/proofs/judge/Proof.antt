@@ -1,38 +1,67 @@
--- The parts, the arguments and the key are those of the eight numbers, and the rest is `judge_parts`' promise.
+-- Each return of `judge` stands where a test of `judgedBy` led to it, in the same order.
 use borrow.Author.Needs.{needs}
-use Rattle.judging.specs.Laws.{judged-is}
+use Rattle.judgements.specs.Judge.{judgedBy}
+use Rattle.judging.specs.Laws.{lookups}
 use Rattle.judging.proofs.judge.Statement.{statement}
 use Rattle.judging.proofs.judge.Tie as tie
 
-element-copy-out-of : tie.Need-element-copy-out-of
-element-copy-out-of c = search needs
+may-call-requires : tie.Need-may-call-requires
+may-call-requires c κs = search needs
 
-of-requires : tie.Need-of-requires
-of-requires c κs = search needs
-
-split-requires : tie.Need-split-requires
-split-requires c κs = search needs
-
-read-args-requires : tie.Need-read-args-requires
-read-args-requires c κs = search needs
-
-key-requires : tie.Need-key-requires
-key-requires c κs = search needs
-
-judge-parts-requires : tie.Need-judge-parts-requires
-judge-parts-requires c κs = search needs
+refuse-requires : tie.Need-refuse-requires
+refuse-requires c κs = search needs
 
 returns : tie.Need-returns
-returns c = search judged-is
+unfolding judgedBy
+returns c = search lookups depth 20
+
+admitted-requires : tie.Need-admitted-requires
+admitted-requires c κs = search needs
+
+refuse-requires-2 : tie.Need-refuse-requires-2
+refuse-requires-2 c κs = search needs
+
+returns-2 : tie.Need-returns-2
+unfolding judgedBy
+returns-2 c = search lookups depth 20
+
+handler-of-requires : tie.Need-handler-of-requires
+handler-of-requires c κs = search needs
+
+enum-known-h : tie.Need-enum-known-h
+enum-known-h c = search needs
+
+enum-told : tie.Need-enum-told
+enum-told c = search needs
+
+refuse-requires-3 : tie.Need-refuse-requires-3
+refuse-requires-3 c κs = search needs
+
+returns-3 : tie.Need-returns-3
+unfolding judgedBy
+returns-3 c = search lookups depth 20
+
+by-handler-requires : tie.Need-by-handler-requires
+by-handler-requires c κs = search needs
+
+returns-4 : tie.Need-returns-4
+unfolding judgedBy
+returns-4 c = search lookups depth 20
 
 pub judge-spec : {M : Type 1} → statement M
 judge-spec =
     tie.close
     (tie.spec
-    element-copy-out-of
-    of-requires
-    split-requires
-    read-args-requires
-    key-requires
-    judge-parts-requires
-    returns)
+    may-call-requires
+    refuse-requires
+    returns
+    admitted-requires
+    refuse-requires-2
+    returns-2
+    handler-of-requires
+    enum-known-h
+    enum-told
+    refuse-requires-3
+    returns-3
+    by-handler-requires
+    returns-4)
