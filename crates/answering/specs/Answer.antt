@@ -8,7 +8,7 @@ use lib.Dec.{leb}
 use lib.ListN.{length}
 use borrow.Author.Tests.{leb-true}
 use Rattle.rules.specs.Choice.{pick, chosen, yes-or-no}
-use Rattle.rules.specs.Laid.{laid, put, length-laid}
+use Rattle.tools.specs.Laid.{laid, put, length-laid}
 use Rattle.registers.specs.declared.Shown.{Shown}
 use Rattle.parsing.specs.Frame.{isCall}
 use Rattle.parsing.specs.declared.Frame.{Frame}

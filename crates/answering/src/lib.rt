@@ -1,6 +1,6 @@
 // One frame, and the text of its answer.
 ghost use mathlib.Core.Path.{_≡_};
-ghost use Rattle.rules.specs.Laid.{put};
+ghost use Rattle.tools.specs.Laid.{put};
 ghost use Rattle.frames.specs.Frames.{machine};
 ghost use Rattle.answering.specs.Answer.{textOf, answered};
 use calling::Reply;

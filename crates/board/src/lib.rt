@@ -4,7 +4,7 @@ ghost use Rattle.mapping.specs.Lists.{held};
 ghost use Rattle.pages.specs.Window.{pageOf};
 ghost use Rattle.cores.specs.Cores.{onCount};
 ghost use Rattle.mapping.specs.Mapping.{mapVerdict, leadOf};
-ghost use Rattle.judgements.specs.Names.{normal};
+ghost use Rattle.rules.specs.Sizes.{normal};
 ghost use Rattle.judgements.specs.Judge.{granted, handlerSight, wanted, owning, mapping as mappingBy, unmapping, leading, board};
 use cores::Powers;
 use judgements::Answer;

@@ -17,7 +17,7 @@ use Rattle.pages.specs.Owners.{WholeOwners, owner, given-outside}
 use Rattle.ranges.specs.declared.Mapping.{Mapping}
 use Rattle.transfers.specs.Granted.{Movable, move-granted, moved-from, moved-to}
 use Rattle.mapping.specs.Lists.{WholeLists}
-use Rattle.judgements.specs.Names.{secure, normal, realm}
+use Rattle.rules.specs.Sizes.{secure, normal, realm}
 use Rattle.judgements.specs.Judge.{HandlerSight, calledBy}
 use Rattle.judgements.specs.Grounds.{Takes, Between, Moves, Grounds, grounded}
 use Rattle.judgements.specs.Grounds.Between.{toCaller, toNormal}

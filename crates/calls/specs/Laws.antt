@@ -12,7 +12,7 @@ use Rattle.cores.specs.declared.Power.{Power}
 use Rattle.cores.specs.declared.Turn.{Turn}
 use Rattle.cores.specs.declared.Arriving.{Arriving}
 use Rattle.mapping.specs.Lists.{held}
-use Rattle.judgements.specs.Names.{normal}
+use Rattle.rules.specs.Sizes.{normal}
 use Rattle.judgements.specs.Judge.{handlerSight, sighted, judgedBy, judged}
 use Rattle.judging.specs.Laws.{requestOf}
 use Rattle.judgements.specs.declared.Judged.{Judged}

@@ -20,7 +20,7 @@ use Rattle.mapping.specs.Lists.{WholeLists, holding-whole, released-whole, unma
 use Rattle.mapping.specs.Sound.{Sound, sound-none, granted-room, granted-formed, granted-keeps, without-keeps}
 use Rattle.ranges.specs.declared.Mapping.{Mapping}
 use Rattle.transfers.specs.Granted.{Movable, move-granted, moved-keeps}
-use Rattle.judgements.specs.Names.{secure, normal, realm}
+use Rattle.rules.specs.Sizes.{secure, normal, realm}
 use Rattle.judgements.specs.Grounds.{Takes, Calls, Between, Grounds, grounded}
 use Rattle.judgements.specs.Grounds.Between.{toCaller, toNormal}
 use Rattle.judgements.specs.declared.Deed.{Deed}

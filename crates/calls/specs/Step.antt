@@ -8,7 +8,7 @@ use Rattle.cores.specs.Power.{arrived, isPending, entered}
 use Rattle.cores.specs.Cores.{power, withPower, turn, withTurn}
 use Rattle.cores.specs.declared.Power.{Power}
 use Rattle.mapping.specs.Lists.{held}
-use Rattle.judgements.specs.Names.{normal}
+use Rattle.rules.specs.Sizes.{normal}
 use Rattle.judgements.specs.Judge.{handlerSight, Sight, sighted, judged}
 use Rattle.judgements.specs.declared.Answer.{Answer}
 use Rattle.judgements.specs.declared.Deed.{Deed}

@@ -12,7 +12,7 @@ use lib.ListN.{getD, set, replicate}
 use borrow.Author.Tests.{ltb-true, ltb-false}
 use Rattle.rules.specs.Sizes.{root, normal, mostCores}
 use Rattle.rules.specs.Choice.{either}
-use Rattle.rules.specs.Store.{read, write, Whole, read-in, write-in, write-out, write-same, write-other, write-whole, blank-whole, blank-read, past-read}
+use Rattle.tools.specs.Store.{read, write, Whole, read-in, write-in, write-out, write-same, write-other, write-whole, blank-whole, blank-read, past-read}
 use Rattle.cores.specs.Count.{bit, bit-told, count, mask, ones-mask, mask-fits, count-le}
 use Rattle.cores.specs.Power.{powerOf, turnOf, off, on, isOn}
 use Rattle.cores.specs.declared.Power.{Power}

@@ -7,7 +7,7 @@ use Rattle.cores.specs.Power.{started, goneOff, handed, finished}
 use Rattle.cores.specs.Cores.{power, withPower, turn, withTurn}
 use Rattle.pages.specs.Owners.{given}
 use Rattle.mapping.specs.Lists.{holding, released}
-use Rattle.judgements.specs.Names.{normal}
+use Rattle.rules.specs.Sizes.{normal}
 use Rattle.judgements.specs.declared.Deed.{Deed}
 use Rattle.judgements.specs.declared.Deed.the-variants.{Nothing, Move, Map, Unmap, Start, GoOff, HandOver, Finish}
 

@@ -10,7 +10,7 @@ use Rattle.cores.specs.declared.Turn.{Turn}
 use Rattle.pages.specs.Owners.{given}
 use Rattle.mapping.specs.Lists.{holding, released}
 use Rattle.ranges.specs.declared.Mapping.{Mapping}
-use Rattle.judgements.specs.Names.{normal}
+use Rattle.rules.specs.Sizes.{normal}
 use Rattle.judgements.specs.declared.Deed.{Deed}
 use Rattle.judgements.specs.declared.Deed.the-variants.{Nothing, Move, Map, Unmap, Start, GoOff, HandOver, Finish}
 use Rattle.deeds.specs.Deeds.{tables, startedIn, goneOffIn, handedIn, finishedIn, finishNumbers, carriedOut}

@@ -1,12 +1,11 @@
 // What each deed does.
 ghost use mathlib.Core.Path.{_≡_};
 ghost use Rattle.registers.specs.Registers.{saving};
-ghost use Rattle.judgements.specs.Names.{normal};
+ghost use Rattle.rules.specs.Sizes.{normal};
 ghost use Rattle.deeds.specs.Deeds.{tables, startedIn, goneOffIn, handedIn, finishedIn, finishNumbers, carriedOut};
 use cores::Powers;
 use cores::Turns;
 use judgements::Deed;
-use judgements::names;
 use mapping::Lists;
 use pages::Owners;
 use registers::Saved;
@@ -48,7 +47,7 @@ fn give_back(t: &mut Saved, core: u64, caller: u64, x: &[u64; 8])
     ensures { λ _. ⌜ now (t .exit) ≡ saving (now (t .entry)) core normal (finishNumbers caller (now (x .entry))) ⌝ }
 {
     let s: &[u64] = x;
-    registers::save(t, core, names::NORMAL, &s[1..5]);
+    registers::save(t, core, rules::NORMAL, &s[1..5]);
 }
 
 // Carries a deed out for the world that called, with its eight numbers.

@@ -9,7 +9,7 @@ use lib.Dec.{ltb, eqb}
 use borrow.Author.Tests.{ltb-false, le-ltb, eqb-true, eqb-false, eq-eqb, ne-eqb}
 use lib.ListN.{getD, replicate, getD-replicate}
 use Rattle.rules.specs.Choice.{either, left-false, right-false, not-true}
-use Rattle.rules.specs.Search.{all, all-at, all-if}
+use Rattle.tools.specs.Search.{all, all-at, all-if}
 use Rattle.fip_entries.specs.Numbers.{eight}
 
 -- where entry k begins

@@ -27,5 +27,3 @@ module _ (a b c : ℕ) where
 
   pub sum-reached : b ≤ a → c ≤ a - b → false ≡ ltb a (b + c)
   sum-reached h l = sym (le-ltb a (b + c) (omega arith))
-
-pub ruleset sums = (sum-first, sum-second, sum-reached)

@@ -12,8 +12,8 @@ use lib.Seq.{ext-getD}
 use lib.ListN.{length, getD, replicate, List·getD-eq-default}
 use borrow.Author.Tests.{eq-eqb, ne-eqb, eqb-true, ltb-true, ltb-false}
 use Rattle.rules.specs.Choice.{pick, either, yes-or-no, both-true, left-true, right-true}
-use Rattle.rules.specs.Search.{all, all-at, all-if}
-use Rattle.rules.specs.Laid.{laid, then, laid-append, length-laid}
+use Rattle.tools.specs.Search.{all, all-at, all-if}
+use Rattle.tools.specs.Laid.{laid, then, laid-append, length-laid}
 use Rattle.hex.specs.Rows.{Filled}
 use Rattle.hex.specs.Hex.{digitOf, signOf, sign-low, sign-high, digit-below, digit-low, digit-between, digit-high, digit-above}
 

@@ -4,8 +4,8 @@ ghost use Prim.Native.Nat.{_+_, _*_, _≤_, _<_};
 ghost use lib.ListN.{length, getD};
 ghost use mathlib.Core.List.{[], _∷_};
 ghost use Rattle.fip_entries.specs.Entries.{entry};
-ghost use Rattle.rules.specs.Laid.{laid};
-ghost use Rattle.rules.specs.Search.{all};
+ghost use Rattle.tools.specs.Laid.{laid};
+ghost use Rattle.tools.specs.Search.{all};
 ghost use Rattle.hex.specs.Hex.{digitOf, signOf};
 ghost use Rattle.fip_identifiers.specs.Identifiers.{byteText, run, idText, agree, placeOf, byteOf, bytesOf, identified};
 

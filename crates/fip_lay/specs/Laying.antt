@@ -4,7 +4,7 @@ use mathlib.Core.List.{List, [], _∷_, _++_}
 use Prim.Native.Nat.{ℕ, _+_, _-_, _*_, _/_, _%_, _≤_, _<_}
 use native.Mathlib.Omega.{arith}
 use lib.ListN.{length, getD, set}
-use Rattle.rules.specs.Laid.{laid, laid-one, laid-append, laid-past, length-laid, then}
+use Rattle.tools.specs.Laid.{laid, laid-one, laid-append, laid-past, length-laid, then}
 use Rattle.fip_entries.specs.Entries.{entry}
 use Rattle.fip_lay.specs.Bytes.{spell, copied, entryOf, length-spell, length-copied, spell-next, copied-next, spell-none, copied-none}
 

@@ -3,7 +3,7 @@ ghost use mathlib.Core.Path.{_≡_};
 ghost use Prim.Native.Nat.{_+_, _<_};
 ghost use mathlib.Core.List.{_++_};
 ghost use lib.ListN.{getD};
-ghost use Rattle.rules.specs.Laid.{laid};
+ghost use Rattle.tools.specs.Laid.{laid};
 ghost use Rattle.fip_entries.specs.Entries.{entry};
 ghost use Rattle.fip_lay.specs.Bytes.{spell, copied, entryOf};
 

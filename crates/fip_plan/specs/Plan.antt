@@ -10,9 +10,9 @@ use lib.ListN.{length}
 use lib.Seq.{take-all}
 use borrow.Author.Tests.{lt-ltb, le-ltb}
 use Rattle.rules.specs.Choice.{pick, picked, passed}
-use Rattle.rules.specs.Search.{any}
+use Rattle.tools.specs.Search.{any}
 use Rattle.rules.specs.Tests.{Test, refuses, sieve}
-use Rattle.rules.specs.Laid.{laid}
+use Rattle.tools.specs.Laid.{laid}
 use Rattle.fip_entries.specs.Entries.{entry, size}
 use Rattle.fip_table.specs.Table.{blank, doubled, strays, tableEnd}
 use Rattle.fip_lay.specs.Bytes.{copied, entryOf, copied-is}

@@ -10,7 +10,7 @@ use lib.ListN.{length, getD, length-drop}
 use borrow.Author.Tests.{ltb-true, ltb-false, lt-ltb, le-ltb, eqb-true, eqb-false, eq-eqb, not-false}
 use Rattle.rules.specs.Choice.{pick, chosen, either, yes-or-no, neither, not-first, not-second}
 use Rattle.rules.specs.Tests.{sieve, Clear, Reasons, none-holds, sieved, goes, ends}
-use Rattle.rules.specs.Search.{first-is}
+use Rattle.tools.specs.Search.{first-is}
 use Rattle.fip_entries.specs.Numbers.{four}
 use Rattle.fip_entries.specs.Entries.{entry, offset, size, same, zeros, same-bytes, bytes-same, zeros-byte, Apart, shares-apart, apart-shares}
 use Rattle.fip_table.specs.Table.{blank, twins, doubled, strays, tableEnd, crowded, slots, count, unended, ended, holds, sought}

@@ -8,7 +8,7 @@ use lib.Dec.{ltb, eqb}
 use lib.ListN.{length, getD}
 use borrow.Author.Tests.{ltb-true, ltb-false, le-ltb, eqb-false, ne-eqb, not-false}
 use Rattle.rules.specs.Choice.{chosen, either, yes-or-no, left-false, right-false, neither, not-first, not-second, not-true}
-use Rattle.rules.specs.Search.{any, Firstly, first-is, any-not, any-if-not}
+use Rattle.tools.specs.Search.{any, Firstly, first-is, any-not, any-if-not}
 use Rattle.fip_entries.specs.Entries.{entry, offset, size, zeros, outside, shares, same-bytes, bytes-same, zeros-byte, rest-false}
 use Rattle.fip_table.specs.Table.{blank, twins, repeated, doubled, strays, tableEnd, covers, crowded, slots, count, unended}
 

@@ -6,7 +6,7 @@ use Prim.Native.Nat.{ℕ, _+_, _≤_}
 use native.Mathlib.Omega.{arith}
 use lib.Dec.{ltb}
 use lib.ListN.{length}
-use Rattle.rules.specs.Search.{any, first, any-first}
+use Rattle.tools.specs.Search.{any, first, any-first}
 use Rattle.fip_entries.specs.Entries.{entry, offset, size, same, zeros, outside, shares}
 use Rattle.fip_table.specs.Table.{blank, twins, repeated, doubled, holds, sought, strays, tableEnd, covers, crowded, slots, count, covers-rest}
 use Rattle.fip_table.specs.declared.Question.{Question}

@@ -7,7 +7,7 @@ use lib.Dec.{ltb, eqb}
 use borrow.Author.Tests.{lt-ltb, le-ltb, eq-eqb, ne-eqb}
 use lib.ListN.{length}
 use Rattle.rules.specs.Choice.{pick}
-use Rattle.rules.specs.Search.{any, first}
+use Rattle.tools.specs.Search.{any, first}
 use Rattle.fip_entries.specs.Entries.{entry, offset, size, same, zeros, outside, shares}
 
 -- ---- identifiers

@@ -2,7 +2,7 @@
 // identifier, and what is wrong with them.
 ghost use mathlib.Core.Path.{_≡_};
 ghost use Prim.Native.Nat.{_≤_};
-ghost use Rattle.rules.specs.Search.{any, first};
+ghost use Rattle.tools.specs.Search.{any, first};
 ghost use Rattle.fip_table.specs.Table.{blank, doubled, strays, covers, crowded, slots, count, unended, sought, tableEnd};
 ghost use Rattle.fip_table.specs.Question.{answers, clashes};
 

@@ -5,7 +5,7 @@ use Prim.Native.Nat.{ℕ}
 use Prim.Native.String.{String}
 use lib.ListN.{replicate}
 use Rattle.rules.specs.Choice.{pick}
-use Rattle.rules.specs.Search.{all}
+use Rattle.tools.specs.Search.{all}
 use Rattle.hex.specs.Signs.{signs}
 use Rattle.hex.specs.Hex.{signOf}
 use Rattle.fip_entries.specs.Numbers.{two, four, eight}

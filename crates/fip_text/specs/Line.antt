@@ -8,7 +8,7 @@ use lib.Dec.{ltb}
 use lib.ListN.{length, take, drop, length-append}
 use Rattle.io.specs.Digits.{digits, Fewest}
 use Rattle.rules.specs.Choice.{pick}
-use Rattle.rules.specs.Laid.{laid, then, laid-append, length-laid}
+use Rattle.tools.specs.Laid.{laid, then, laid-append, length-laid}
 use Rattle.fip_entries.specs.Entries.{entry, offset, size, flags}
 use Rattle.fip_identifiers.specs.Identifiers.{idText, length-id}
 use Rattle.fip_text.specs.Names.{nameText}

@@ -4,7 +4,7 @@ use mathlib.Core.List.{List, [], _∷_}
 use Prim.Native.Nat.{ℕ}
 use Prim.Native.String.{String}
 use Rattle.rules.specs.Choice.{pick}
-use Rattle.rules.specs.Search.{all}
+use Rattle.tools.specs.Search.{all}
 use Rattle.hex.specs.Signs.{signs}
 use Rattle.fip_identifiers.specs.Identifiers.{agree}
 

@@ -7,7 +7,7 @@ use native.Mathlib.Numerals.{add-one}
 use native.Mathlib.Omega.{arith}
 use lib.ListN.{length, getD, set, drop, length-append, length-set, drop-of-length-le}
 use lib.Seq.{sets, drop-cons}
-use Rattle.rules.specs.Laid.{laid, then}
+use Rattle.tools.specs.Laid.{laid, then}
 
 -- a text was laid at a place, and r is the place behind it
 pub record Stands (o : List ℕ) (at : ℕ) (text : List ℕ) (r : ℕ) (o′ : List ℕ) : Type 0 where

@@ -10,8 +10,8 @@ use lib.ListN.{length, getD, take, drop, replicate, length-drop}
 use lib.Seq.{length-take-le}
 use borrow.Author.Tests.{lt-ltb, le-ltb, eqb-true}
 use Rattle.rules.specs.Choice.{pick, pick-yes, pick-no, by}
-use Rattle.rules.specs.Search.{all, all-at, first}
-use Rattle.rules.specs.Laid.{laid}
+use Rattle.tools.specs.Search.{all, all-at, first}
+use Rattle.tools.specs.Laid.{laid}
 use Rattle.hex.specs.Signs.{signs}
 use Rattle.fip_identifiers.specs.Identifiers.{agree}
 use Rattle.fip_text.specs.Names.{names, isText, nameAmong, nameText}

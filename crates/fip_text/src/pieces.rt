@@ -3,7 +3,7 @@ ghost use mathlib.Core.Path.{_≡_};
 ghost use mathlib.Core.List.{[], _∷_};
 ghost use Prim.Native.Nat.{_+_, _≤_};
 ghost use lib.ListN.{length};
-ghost use Rattle.rules.specs.Laid.{laid};
+ghost use Rattle.tools.specs.Laid.{laid};
 
 pub(crate) fn put_byte(out: &mut [u8], at: usize, b: u8)
     requires { ⌜ at + 1 ≤ length (now out) ⌝ }

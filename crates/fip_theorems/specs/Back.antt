@@ -11,7 +11,7 @@ use lib.Seq.{length-take-le}
 use borrow.Author.Tests.{eq-eqb, ltb-true, ltb-false}
 use Rattle.rules.specs.Choice.{pick-yes, not-true, second-or, first-or, either, yes-or-no}
 use Rattle.rules.specs.Tests.{stops, goes}
-use Rattle.rules.specs.Search.{first-is}
+use Rattle.tools.specs.Search.{first-is}
 use Rattle.fip_entries.specs.Numbers.{four, eight}
 use Rattle.fip_entries.specs.Entries.{entry, offset, size, same, zeros, same-bytes, bytes-same}
 use Rattle.fip_table.specs.Table.{twins, holds, sought, tableEnd}

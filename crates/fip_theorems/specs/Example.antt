@@ -4,9 +4,9 @@ use mathlib.Core.List.{List, [], _∷_, _++_}
 use Prim.Native.Nat.{ℕ}
 use lib.ListN.{replicate}
 use Rattle.rules.specs.Choice.{pick}
-use Rattle.rules.specs.Search.{all, any, first}
+use Rattle.tools.specs.Search.{all, any, first}
 use Rattle.rules.specs.Tests.{sieve}
-use Rattle.rules.specs.Laid.{laid}
+use Rattle.tools.specs.Laid.{laid}
 use Rattle.fip_entries.specs.Numbers.{two, four, eight}
 use Rattle.fip_entries.specs.Entries.{offset, size, agrees, same, outside, begins, shares}
 use Rattle.fip_table.specs.Table.{blank, twins, repeated, doubled, holds, sought, strays, tableEnd, covers, crowded, slots, count, unended}

@@ -8,7 +8,7 @@ use lib.Dec.{ltb}
 use borrow.Author.Tests.{eqb-false}
 use Rattle.rules.specs.Choice.{not-second}
 use Rattle.rules.specs.Tests.{Clear}
-use Rattle.rules.specs.Search.{any-not}
+use Rattle.tools.specs.Search.{any-not}
 use Rattle.fip_entries.specs.Entries.{offset, size}
 use Rattle.fip_table.specs.Table.{blank, twins}
 use Rattle.fip_table.specs.Meaning.{single-one, all-inside}

@@ -5,7 +5,7 @@ use Prim.Native.Nat.{ℕ, _+_, _-_, _≤_}
 use native.Mathlib.Omega.{arith}
 use lib.ListN.{length, take, drop}
 use lib.Seq.{sets-eq, length-take-le}
-use Rattle.rules.specs.Laid.{laid}
+use Rattle.tools.specs.Laid.{laid}
 use Rattle.fip_lay.specs.Bytes.{copied}
 use Rattle.fip_theorems.specs.Bytes.{copied-front, copied-drop, copied-take}
 use Rattle.fip_theorems.specs.Layout.{first-part, second-part}

@@ -10,7 +10,7 @@ use lib.Seq.{take-at, drop-at}
 use borrow.Author.Tests.{lt-ltb, ltb-true, ltb-false}
 use Rattle.rules.specs.Choice.{pick-yes, pick-no, either}
 use Rattle.rules.specs.Tests.{among-reasons}
-use Rattle.rules.specs.Laid.{laid, length-laid}
+use Rattle.tools.specs.Laid.{laid, length-laid}
 use Rattle.fip_entries.specs.Entries.{entry}
 use Rattle.fip_lay.specs.Bytes.{spell, length-spell, entryOf}
 use Rattle.fip_plan.specs.Plan.{total, planned, hindrances, weighed, plannedAt, plan-kept}

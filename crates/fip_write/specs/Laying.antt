@@ -4,7 +4,7 @@ use mathlib.Core.List.{List, _++_}
 use Prim.Native.Nat.{ℕ, _+_, _-_, _*_, _≤_, _<_}
 use native.Mathlib.Omega.{arith}
 use lib.ListN.{length}
-use Rattle.rules.specs.Laid.{laid, then}
+use Rattle.tools.specs.Laid.{laid, then}
 use Rattle.fip_entries.specs.Entries.{entry, offset, size, zeros}
 use Rattle.fip_table.specs.Table.{tableEnd}
 use Rattle.fip_lay.specs.Bytes.{spell, copied, entryOf, length-spell, length-copied}

@@ -5,7 +5,7 @@ use Prim.Native.Nat.{ℕ, _≤_}
 use native.Mathlib.Omega.{arith}
 use lib.ListN.{length}
 use Rattle.rules.specs.Tests.{sieve, sieve-stands, sieve-denies}
-use Rattle.rules.specs.Laid.{laid}
+use Rattle.tools.specs.Laid.{laid}
 use Rattle.fip_table.specs.Table.{slots}
 use Rattle.fip_plan.specs.Plan.{planned, total, hindrances, weighed}
 use Rattle.fip_plan.specs.Weighing.{few-slots, unhindered, few-planned, short-planned}

@@ -3,7 +3,7 @@ mod parts;
 
 ghost use mathlib.Core.Path.{_≡_};
 ghost use Prim.Native.Nat.{_≤_};
-ghost use Rattle.rules.specs.Laid.{laid};
+ghost use Rattle.tools.specs.Laid.{laid};
 ghost use Rattle.fip_plan.specs.Plan.{total};
 ghost use Rattle.fip_write.specs.Packed.{packed};
 ghost use Rattle.fip_write.specs.Writing.{wrote};

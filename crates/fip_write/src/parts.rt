@@ -1,7 +1,7 @@
 // The parts of a package, each laid over the bytes at its place.
 ghost use mathlib.Core.Path.{_≡_};
 ghost use Prim.Native.Nat.{_+_, _*_, _≤_, _<_};
-ghost use Rattle.rules.specs.Laid.{laid};
+ghost use Rattle.tools.specs.Laid.{laid};
 ghost use Rattle.fip_table.specs.Table.{tableEnd};
 ghost use Rattle.fip_plan.specs.Plan.{total};
 ghost use Rattle.fip_write.specs.Packed.{header, row, rows, ending, images};

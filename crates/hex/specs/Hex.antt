@@ -9,7 +9,7 @@ use lib.Dec.{ltb}
 use lib.ListN.{length, getD, length-append}
 use borrow.Author.Tests.{lt-ltb, le-ltb, ltb-true, ltb-false}
 use Rattle.rules.specs.Choice.{pick, picked, passed, either}
-use Rattle.rules.specs.Search.{all}
+use Rattle.tools.specs.Search.{all}
 
 -- the value of a digit, 0 to 9 and a to f; 16 for any other byte
 unfoldable pub digitOf : ℕ → ℕ

@@ -11,7 +11,7 @@ use mir.Val.{Fits}
 use lib.ListN.{length, getD, List·getD-eq-default}
 use borrow.Author.Tests.{lt-ltb, le-ltb}
 use Rattle.rules.specs.Choice.{pick, picked, passed, by, left-false, right-false, both-true}
-use Rattle.rules.specs.Search.{all, all-goes, all-stops, all-ends}
+use Rattle.tools.specs.Search.{all, all-goes, all-stops, all-ends}
 use Rattle.hex.specs.Hex.{digitOf, digitAt, allDigits, value, number, digit-most}
 use Rattle.hex.specs.declared.Byte.{Byte}
 use Rattle.hex.specs.declared.Byte.the-variants.{Is, NoDigits}

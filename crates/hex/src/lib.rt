@@ -50,7 +50,7 @@ fn digit_at(line: &[u8], at: usize) -> u64
     ensures { λ r. ⌜ (r ≡ digitOf (getD (now (line .entry)) at 0)) × (r ≤ 16) ⌝ }
 {
     if at < line.len() {
-        return rules::wide(digit(line[at]));
+        return tools::wide(digit(line[at]));
     }
     16
 }

@@ -10,7 +10,7 @@ use lib.ListN.{length, getD, set}
 use lib.Seq.{ext-getD}
 use borrow.Author.Tests.{lt-ltb, le-ltb, ltb-true}
 use Rattle.rules.specs.Choice.{pick, picked, passed, by, either, yes-or-no}
-use Rattle.rules.specs.Search.{all, all-at, all-goes, all-stops, all-ends}
+use Rattle.tools.specs.Search.{all, all-at, all-goes, all-stops, all-ends}
 use Rattle.hex.specs.Hex.{valueOf, digitAt, value, number, numbers}
 use Rattle.hex.specs.Read.{no-digit, digit-past}
 use Rattle.hex.specs.Rows.{Row, Filled, filled-none, filled-more, filled-all}

@@ -5,7 +5,7 @@ use Prim.Native.Nat.{ℕ, zero, suc, _+_, _-_, _*_, _/_, _%_, _≤_, _<_}
 use native.Mathlib.Omega.{arith}
 use native.Mathlib.Nat.{add-zero}
 use lib.ListN.{length, set, replicate, length-set}
-use Rattle.rules.specs.Laid.{laid}
+use Rattle.tools.specs.Laid.{laid}
 use Rattle.hex.specs.Swap.{swap, quotient, rest, swap-two, swap-four, swap-eight}
 
 -- n bytes of a number, the lowest first

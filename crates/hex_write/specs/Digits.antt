@@ -5,7 +5,7 @@ use Prim.Native.Nat.{ℕ, zero, suc, _+_, _-_, _*_, _/_, _%_, _≤_, _<_}
 use native.Mathlib.Omega.{arith}
 use native.Mathlib.Numerals.{add-one}
 use lib.ListN.{length, getD, length-append}
-use Rattle.rules.specs.Laid.{laid, put, then, laid-append, length-laid, put-fits, put-not}
+use Rattle.tools.specs.Laid.{laid, put, then, laid-append, length-laid, put-fits, put-not}
 use Rattle.hex.specs.Hex.{signOf, inHex, length-hex}
 use Rattle.hex.specs.Swap.{swap, quotient, rest}
 use Rattle.hex_write.specs.Bytes.{lowBytes, fourOf, swapped-bytes, mod-byte}

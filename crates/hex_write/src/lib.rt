@@ -3,7 +3,7 @@ ghost use mathlib.Core.Path.{_≡_};
 ghost use mathlib.Core.List.{[], _∷_};
 ghost use Prim.Native.Nat.{_+_, _<_, _≤_};
 ghost use lib.ListN.{length};
-ghost use Rattle.rules.specs.Laid.{laid, put};
+ghost use Rattle.tools.specs.Laid.{laid, put};
 ghost use Rattle.hex.specs.Hex.{signOf, inHex};
 ghost use Rattle.hex_write.specs.Bytes.{lowBytes, fourOf};
 ghost use Rattle.hex_write.specs.Digits.{byteText, bytesText, fourText};

@@ -30,7 +30,8 @@ use Rattle.transfers.specs.Transfer.{moveVerdict, severalVerdict}
 use Rattle.transfers.specs.Granted.{move-granted, several-granted}
 use Rattle.transfers.specs.declared.Verdict.{Verdict as Moving}
 use Rattle.transfers.specs.declared.Verdict.the-variants as Moving
-use Rattle.judgements.specs.Names.{secure, normal, realm, powerVersion, coreOff, coreStart, coreStartWide, coreState, coreStateWide, powerFeatures, granuleToRealm, granuleToNormal, realmFirst, realmLast, realmFinish, takePages, givePages, mapPages, unmapPages, secureFinish}
+use Rattle.rules.specs.Sizes.{secure, normal, realm}
+use Rattle.judgements.specs.Names.{powerVersion, coreOff, coreStart, coreStartWide, coreState, coreStateWide, powerFeatures, granuleToRealm, granuleToNormal, realmFirst, realmLast, realmFinish, takePages, givePages, mapPages, unmapPages, secureFinish}
 use Rattle.judgements.specs.Judge.{HandlerSight, Sight, denied, granted, tested, oneOf, callers, wanted, calledBy, argsOf, affirmed, featuring, architecture, starting, tellingState, goingOff, versioning, powerFeaturing, moving, granuleIn, granuleOut, taking, giving, owning, mapping, unmapping, leading, board, handing, finishing, handingToRealm, realmCall, standard, trusted, byHandler, found, judgedBy, judged}
 use Rattle.judgements.specs.declared.Answer.{Answer}
 use Rattle.judgements.specs.declared.Answer.the-variants as Answer

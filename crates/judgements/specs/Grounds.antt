@@ -27,7 +27,7 @@ use Rattle.transfers.specs.Transfer.{moveVerdict, severalVerdict}
 use Rattle.transfers.specs.Granted.{several-granted}
 use Rattle.transfers.specs.declared.Verdict.{Verdict as Moving}
 use Rattle.transfers.specs.declared.Verdict.the-variants as Moving
-use Rattle.judgements.specs.Names.{secure, normal, realm}
+use Rattle.rules.specs.Sizes.{secure, normal, realm}
 use Rattle.judgements.specs.declared.Answer.{Answer}
 use Rattle.judgements.specs.declared.Answer.the-variants as Answer
 use Rattle.judgements.specs.declared.Deed.{Deed}

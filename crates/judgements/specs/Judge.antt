@@ -30,7 +30,8 @@ use Rattle.mapping.specs.declared.Lead.the-variants as Lead
 use Rattle.transfers.specs.Transfer.{moveVerdict, severalVerdict}
 use Rattle.transfers.specs.declared.Verdict.{Verdict as Moving}
 use Rattle.transfers.specs.declared.Verdict.the-variants as Moving
-use Rattle.judgements.specs.Names.{secure, normal, realm, version, features, powerVersion, coreOff, coreStart, coreStartWide, coreState, coreStateWide, powerFeatures, granuleToRealm, granuleToNormal, realmFirst, realmLast, realmFinish, takePages, givePages, ownsPage, mapPages, unmapPages, whereLeads, countOn, secureFinish}
+use Rattle.rules.specs.Sizes.{secure, normal, realm}
+use Rattle.judgements.specs.Names.{version, features, powerVersion, coreOff, coreStart, coreStartWide, coreState, coreStateWide, powerFeatures, granuleToRealm, granuleToNormal, realmFirst, realmLast, realmFinish, takePages, givePages, ownsPage, mapPages, unmapPages, whereLeads, countOn, secureFinish}
 use Rattle.judgements.specs.declared.Answer.{Answer}
 use Rattle.judgements.specs.declared.Answer.the-variants as Answer
 use Rattle.judgements.specs.declared.Deed.{Deed}

@@ -1,14 +1,6 @@
--- The worlds that call and the identifiers that are served, by their names here.
+-- The identifiers that are served, by their names here.
 use Prim.Native.Nat.{ℕ}
-
-abbrev pub secure : ℕ
-secure = 1
-
-abbrev pub normal : ℕ
-normal = 2
-
-abbrev pub realm : ℕ
-realm = 3
+pub use Rattle.rules.specs.Sizes.{secure, normal, realm}
 
 -- ---- the architecture
 abbrev pub version : ℕ

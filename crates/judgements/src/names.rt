@@ -1,10 +1,6 @@
-// The worlds and the identifiers of the paper, each named once.
+// The identifiers of the paper, each named once.
 
-pub const SECURE: u64 = 1;
-
-pub const NORMAL: u64 = 2;
-
-pub const REALM: u64 = 3;
+pub use rules::NORMAL;
 
 // The architecture.
 pub const VERSION: u32 = 0x8000_0000;

@@ -1,7 +1,7 @@
 // A call is judged: what it is answered and what is to be done for it, by reading alone.
 ghost use mathlib.Core.Path.{_≡_};
 ghost use Rattle.mapping.specs.Lists.{held};
-ghost use Rattle.judgements.specs.Names.{normal};
+ghost use Rattle.rules.specs.Sizes.{normal};
 ghost use Rattle.judgements.specs.Judge.{oneOf, callers, argsOf, handlerSight, sighted, byHandler, judgedBy};
 ghost use Rattle.judging.specs.Laws.{requestOf};
 use architecture::architecture_call;
@@ -13,7 +13,6 @@ use judgements::Args;
 use judgements::Caller;
 use judgements::Judged;
 use judgements::Request;
-use judgements::names;
 use judgements::refuse;
 use ledger::Ledger;
 use ledger::Lookup;
@@ -28,9 +27,9 @@ fn may_call(world: u64) -> bool
     ensures { λ r. ⌜ r ≡ oneOf world callers ⌝ }
 {
     match world {
-        names::SECURE => true,
-        names::NORMAL => true,
-        names::REALM => true,
+        rules::SECURE => true,
+        rules::NORMAL => true,
+        rules::REALM => true,
         _ => false,
     }
 }

@@ -6,9 +6,10 @@ use Prim.Native.Nat.{ℕ, _+_, _-_, _≤_}
 use native.Mathlib.Omega.{arith}
 use lib.Dec.{ltb, leb, eqb}
 use borrow.Author.Tests.{ltb-true, ltb-false, leb-true, eqb-true, le-leb, eq-eqb}
+use Rattle.rules.specs.Sizes.{lastOwner, lastKind, lastHandler}
 use Rattle.rules.specs.Choice.{pick, chosen, pick-yes, pick-no, either, yes-or-no, both-true, left-true, right-true}
 use Rattle.rules.specs.Tests.{refuses, sieve}
-use Rattle.rules.specs.Search.{any, any-not, any-if-not}
+use Rattle.tools.specs.Search.{any, any-not, any-if-not}
 use Rattle.ledger.specs.declared.Lookup.{Lookup}
 use Rattle.ledger.specs.declared.Lookup.the-variants.{Handler, Nobody}
 use Rattle.rules.specs.declared.Entered.{Entered}
@@ -29,9 +30,9 @@ unfoldable pub entered : List ℕ → ℕ → ℕ → ℕ → ℕ → Entered ×
 entered t first last kind number =
     sieve (λ (why : Entered). (why, t))
     (refuses (ltb last first) OutOfRange
-    ∷ refuses (ltb 63 last) OutOfRange
-    ∷ refuses (ltb 1 kind) OutOfRange
-    ∷ refuses (ltb 3 number) OutOfRange
+    ∷ refuses (ltb lastOwner last) OutOfRange
+    ∷ refuses (ltb lastKind kind) OutOfRange
+    ∷ refuses (ltb lastHandler number) OutOfRange
     ∷ refuses (any (taken t kind) first (last - first + 1)) Taken
     ∷ [])
     (Accepted, recorded t first last kind number)
@@ -63,9 +64,9 @@ accepts t u first last kind number e = rw (record-is t u first last kind number 
 -- every number is in its range
 pub record Ranged (first last kind number : ℕ) : Type 0 where
   pub order : first ≤ last
-  pub owners : last ≤ 63
-  pub kinds : kind ≤ 1
-  pub handlers : number ≤ 3
+  pub owners : last ≤ lastOwner
+  pub kinds : kind ≤ lastKind
+  pub handlers : number ≤ lastHandler
 
 -- none of the pairs has a handler
 abbrev pub Free : List ℕ → ℕ → ℕ → ℕ → Type 0
@@ -108,11 +109,11 @@ module _ (t : List ℕ) (first last kind number : ℕ) where
     unfolding entered sieve
     entered-by =
         chosen P (ltb last first) _ _ (λ e. outside (λ r. omega (arith, ltb-true last first e)))
-        (λ a. chosen P (ltb 63 last) _ _ (λ e. outside (λ r. omega (arith, ltb-true 63 last e)))
-        (λ b. chosen P (ltb 1 kind) _ _ (λ e. outside (λ r. omega (arith, ltb-true 1 kind e)))
-        (λ c. chosen P (ltb 3 number) _ _ (λ e. outside (λ r. omega (arith, ltb-true 3 number e)))
+        (λ a. chosen P (ltb lastOwner last) _ _ (λ e. outside (λ r. omega (arith, ltb-true lastOwner last e)))
+        (λ b. chosen P (ltb lastKind kind) _ _ (λ e. outside (λ r. omega (arith, ltb-true lastKind kind e)))
+        (λ c. chosen P (ltb lastHandler number) _ _ (λ e. outside (λ r. omega (arith, ltb-true lastHandler number e)))
         (λ d.
-        let r : Ranged first last kind number = record { order = ltb-false last first a; owners = ltb-false 63 last b; kinds = ltb-false 1 kind c; handlers = ltb-false 3 number d } in
+        let r : Ranged first last kind number = record { order = ltb-false last first a; owners = ltb-false lastOwner last b; kinds = ltb-false lastKind kind c; handlers = ltb-false lastHandler number d } in
         chosen P (any (taken t kind) first (last - first + 1)) _ _
         (λ e. clash r (λ f. yes-or-no _ e (any-if-not (taken t kind) first (last - first + 1) (λ o h l. not-taken t kind o (f o h (omega arith))))))
         (λ e. done r (λ o h l. taken-not t kind o (any-not (taken t kind) first (last - first + 1) o e h (omega arith))))))))

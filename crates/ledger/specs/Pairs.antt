@@ -10,15 +10,16 @@ use native.Mathlib.Omega.{arith}
 use lib.Dec.{ltb, leb}
 use lib.ListN.{getD, set, replicate}
 use borrow.Author.Tests.{le-ltb, leb-true}
+use Rattle.rules.specs.Sizes.{lastOwner, lastKind, lastHandler}
 use Rattle.rules.specs.Choice.{pick, chosen, picked, passed, pick-yes, pick-no, either, left-false, left-true, right-true}
 use Rattle.rules.specs.Tests.{tests}
-use Rattle.rules.specs.Store.{read, write, Whole, read-in, write-in, write-same, write-other, write-whole, blank-whole, blank-read}
+use Rattle.tools.specs.Store.{read, write, Whole, read-in, write-in, write-same, write-other, write-whole, blank-whole, blank-read}
 use Rattle.ledger.specs.declared.Lookup.{Lookup}
 use Rattle.ledger.specs.declared.Lookup.the-variants.{Handler, Nobody}
 
 -- there is such a pair, and where it stands
 pair : ℕ → ℕ → Bool
-pair kind owner = leb kind 1 && leb owner 63
+pair kind owner = leb kind lastKind && leb owner lastOwner
 
 abbrev place : ℕ → ℕ → ℕ
 place kind owner = kind * 64 + owner
@@ -41,7 +42,7 @@ handler t kind owner = pick (pair kind owner) (named (read 128 t (place kind own
 
 -- the pair goes to the handler, where there are such a pair and handler
 pub put : List ℕ → ℕ → ℕ → ℕ → List ℕ
-put t kind owner number = pick (pair kind owner && leb number 3) (write 128 t (place kind owner) (number + 1)) t
+put t kind owner number = pick (pair kind owner && leb number lastHandler) (write 128 t (place kind owner) (number + 1)) t
 
 -- and so do the pairs of `count` owners from `first` on
 pub assigned : List ℕ → ℕ → ℕ → ℕ → ℕ → List ℕ
@@ -58,15 +59,15 @@ unfolding empty
 blank = refl
 
 module _ (t : List ℕ) (kind owner : ℕ) where
-  pub no-kind : 1 < kind → Nobody ≡ handler t kind owner
+  pub no-kind : lastKind < kind → Nobody ≡ handler t kind owner
   unfolding handler pair
   no-kind h = passed _ _ _ _ (search tests) refl
 
-  pub no-owner : 63 < owner → Nobody ≡ handler t kind owner
+  pub no-owner : lastOwner < owner → Nobody ≡ handler t kind owner
   unfolding handler pair
   no-owner h = passed _ _ _ _ (search tests) refl
 
-  module _ (byte : ℕ) (b : byte ≡ getD t (kind * 64 + owner) 0) (k : kind ≤ 1) (o : owner ≤ 63) where
+  module _ (byte : ℕ) (b : byte ≡ getD t (kind * 64 + owner) 0) (k : kind ≤ lastKind) (o : owner ≤ lastOwner) where
     by-byte : named byte ≡ handler t kind owner
     unfolding handler pair
     by-byte =
@@ -88,19 +89,19 @@ module _ (t : List ℕ) (kind owner : ℕ) where
 pub ruleset lookups = (no-kind, no-owner, no-byte, junk-byte, a-byte)
 
 module _ (t : List ℕ) (kind owner number : ℕ) where
-  pub put-no-kind : 1 < kind → t ≡ put t kind owner number
+  pub put-no-kind : lastKind < kind → t ≡ put t kind owner number
   unfolding put pair
   put-no-kind h = passed _ _ _ _ (search tests) refl
 
-  pub put-no-owner : 63 < owner → t ≡ put t kind owner number
+  pub put-no-owner : lastOwner < owner → t ≡ put t kind owner number
   unfolding put pair
   put-no-owner h = passed _ _ _ _ (search tests) refl
 
-  pub put-no-handler : 3 < number → t ≡ put t kind owner number
+  pub put-no-handler : lastHandler < number → t ≡ put t kind owner number
   unfolding put pair
   put-no-handler h = passed _ _ _ _ (search tests) refl
 
-  pub put-here : kind ≤ 1 → owner ≤ 63 → number ≤ 3 → set t (kind * 64 + owner) (number + 1) ≡ put t kind owner number
+  pub put-here : kind ≤ lastKind → owner ≤ lastOwner → number ≤ lastHandler → set t (kind * 64 + owner) (number + 1) ≡ put t kind owner number
   unfolding put pair
   put-here k o n = picked _ _ _ _ (search tests) (write-in 128 t (place kind owner) (number + 1) (omega arith))
 
@@ -127,11 +128,11 @@ unfolding recorded
 record-is t u first last kind number e = e
 
 -- ---- what a ledger holds after a write of one pair
-pair-at : (kind owner : ℕ) → pair kind owner ≡ true → (kind ≤ 1) × (owner ≤ 63)
+pair-at : (kind owner : ℕ) → pair kind owner ≡ true → (kind ≤ lastKind) × (owner ≤ lastOwner)
 unfolding pair
-pair-at kind owner e = (leb-true kind 1 (left-true _ _ e), leb-true owner 63 (right-true (leb kind 1) _ e))
+pair-at kind owner e = (leb-true kind lastKind (left-true _ _ e), leb-true owner lastOwner (right-true (leb kind lastKind) _ e))
 
-named-some : (number : ℕ) → number ≤ 3 → named (number + 1) ≡ Handler number
+named-some : (number : ℕ) → number ≤ lastHandler → named (number + 1) ≡ Handler number
 unfolding named
 named-some number h =
     let a : 0 < number + 1 = omega arith in
@@ -145,19 +146,19 @@ unfolding handler
 same-byte t u kind owner f = either (pair kind owner) (λ e. rw (f e)) (λ e. pick-no _ _ _ e ∙ sym (pick-no _ _ _ e))
 
 module _ (t : List ℕ) (kind owner number : ℕ) where
-  put-same : Proper t → kind ≤ 1 → owner ≤ 63 → number ≤ 3 → handler (put t kind owner number) kind owner ≡ Handler number
+  put-same : Proper t → kind ≤ lastKind → owner ≤ lastOwner → number ≤ lastHandler → handler (put t kind owner number) kind owner ≡ Handler number
   unfolding Proper handler pair
   put-same w k o n =
       let i : place kind owner < 128 = omega arith in
       let e : read 128 (put t kind owner number) (place kind owner) ≡ number + 1 =
       rw (← put-here t kind owner number k o n, write-in 128 t (place kind owner) (number + 1) i) (write-same 128 t (place kind owner) (number + 1) w i) in
-      pick-yes (leb kind 1 && leb owner 63) _ _ (search tests) ∙ rw e (named-some number n)
+      pick-yes (leb kind lastKind && leb owner lastOwner) _ _ (search tests) ∙ rw e (named-some number n)
 
   put-other : (k o : ℕ) → (k ≡ kind → o ≡ owner → ⊥) → handler (put t kind owner number) k o ≡ handler t k o
   unfolding put
   put-other k o apart =
       same-byte _ t k o
-      (λ e. chosen (λ (u : List ℕ). read 128 u (place k o) ≡ read 128 t (place k o)) (pair kind owner && leb number 3) _ t
+      (λ e. chosen (λ (u : List ℕ). read 128 u (place k o) ≡ read 128 t (place k o)) (pair kind owner && leb number lastHandler) _ t
       (λ f.
       let p = pair-at k o e in
       let q = pair-at kind owner (left-true _ _ f) in
@@ -166,7 +167,7 @@ module _ (t : List ℕ) (kind owner number : ℕ) where
 
   put-proper : Proper t → Proper (put t kind owner number)
   unfolding Proper put
-  put-proper w = chosen (Whole 128) (pair kind owner && leb number 3) _ t (λ e. write-whole 128 t (place kind owner) (number + 1) w) (λ e. w)
+  put-proper w = chosen (Whole 128) (pair kind owner && leb number lastHandler) _ t (λ e. write-whole 128 t (place kind owner) (number + 1) w) (λ e. w)
 
 -- ---- and after those of an entry
 assigned-proper : (t : List ℕ) (kind first count number : ℕ) → Proper t → Proper (assigned t kind first count number)
@@ -181,7 +182,7 @@ assigned-out t kind first (suc count) number k o d =
     assigned-out (put t kind first number) kind (suc first) count number k o (λ e h l. d e (omega arith) (omega arith))
     ∙ put-other t kind first number k o (λ e f. d e (omega arith) (omega arith))
 
-assigned-in : (t : List ℕ) (kind first count number o : ℕ) → Proper t → kind ≤ 1 → number ≤ 3 → first + count ≤ 64 → first ≤ o → o < first + count
+assigned-in : (t : List ℕ) (kind first count number o : ℕ) → Proper t → kind ≤ lastKind → number ≤ lastHandler → first + count ≤ 64 → first ≤ o → o < first + count
     → handler (assigned t kind first count number) kind o ≡ Handler number
 unfolding assigned
 assigned-in t kind first zero number o w k n s h l = absurd (omega arith)
@@ -209,7 +210,7 @@ module _ (t : List ℕ) (first last kind number : ℕ) where
   unfolding recorded
   recorded-proper w = assigned-proper t kind first (last - first + 1) number w
 
-  pub recorded-in : Proper t → last ≤ 63 → kind ≤ 1 → number ≤ 3 → (owner : ℕ) → first ≤ owner → owner ≤ last → handler (recorded t first last kind number) kind owner ≡ Handler number
+  pub recorded-in : Proper t → last ≤ lastOwner → kind ≤ lastKind → number ≤ lastHandler → (owner : ℕ) → first ≤ owner → owner ≤ last → handler (recorded t first last kind number) kind owner ≡ Handler number
   unfolding recorded
   recorded-in w s k n owner h l = assigned-in t kind first (last - first + 1) number owner w k n (omega arith) h (omega arith)
 

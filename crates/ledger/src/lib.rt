@@ -1,10 +1,13 @@
 // The service ledger: which handler takes the calls of each pair of type and owner.
 ghost use mathlib.Core.Path.{_≡_};
 ghost use Prim.Native.Nat.{_+_, _≤_};
-ghost use Rattle.rules.specs.Search.{any};
+ghost use Rattle.tools.specs.Search.{any};
 ghost use Rattle.ledger.specs.Pairs.{put, assigned};
 ghost use Rattle.ledger.specs.Ledger.{empty, handler, taken, entered};
 use rules::Entered;
+use rules::LAST_HANDLER;
+use rules::LAST_KIND;
+use rules::LAST_OWNER;
 
 // A byte for each pair: 0 for nobody, one more than the handler's number for a handler.
 pub type Ledger = [u8; 128];
@@ -26,13 +29,13 @@ pub fn fresh() -> Ledger
 fn look(t: &Ledger, kind: u64, owner: u64) -> Lookup
     ensures { λ r. ⌜ r ≡ handler (now (t .entry)) kind owner ⌝ }
 {
-    if 1 < kind {
+    if LAST_KIND < kind {
         return Lookup::Nobody;
     }
-    if 63 < owner {
+    if LAST_OWNER < owner {
         return Lookup::Nobody;
     }
-    let byte = rules::wide(t[(kind * 64 + owner) as usize]);
+    let byte = tools::wide(t[(kind * 64 + owner) as usize]);
     if byte == 0 {
         return Lookup::Nobody;
     }
@@ -80,13 +83,13 @@ fn any_taken(t: &Ledger, kind: u64, first: u64, count: u64) -> bool
 fn assign_one(t: &mut Ledger, kind: u64, owner: u64, number: u64)
     ensures { λ _. ⌜ now (t .exit) ≡ put (now (t .entry)) kind owner number ⌝ }
 {
-    if 1 < kind {
+    if LAST_KIND < kind {
         return;
     }
-    if 63 < owner {
+    if LAST_OWNER < owner {
         return;
     }
-    if 3 < number {
+    if LAST_HANDLER < number {
         return;
     }
     t[(kind * 64 + owner) as usize] = (number + 1) as u8;
@@ -113,13 +116,13 @@ pub fn enter(t: &mut Ledger, first: u64, last: u64, kind: u64, number: u64) -> E
     if last < first {
         return Entered::OutOfRange;
     }
-    if 63 < last {
+    if LAST_OWNER < last {
         return Entered::OutOfRange;
     }
-    if 1 < kind {
+    if LAST_KIND < kind {
         return Entered::OutOfRange;
     }
-    if 3 < number {
+    if LAST_HANDLER < number {
         return Entered::OutOfRange;
     }
     let count = last - first + 1;

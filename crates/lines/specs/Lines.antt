@@ -11,7 +11,7 @@ use lib.ListN.{length, getD, take, drop, length-take, length-drop}
 use lib.Seq.{split-at, length-take-le, getD-take, getD-drop, drop-drop}
 use borrow.Author.Tests.{lt-ltb, le-ltb, eq-eqb, ne-eqb, eqb-true, eqb-false, ltb-true, ltb-false}
 use Rattle.rules.specs.Choice.{pick, picked, passed, either, yes-or-no}
-use Rattle.rules.specs.Search.{all-at, first, first-goes, first-stops, first-ends, first-is, Firstly}
+use Rattle.tools.specs.Search.{all-at, first, first-goes, first-stops, first-ends, first-is, Firstly}
 use Rattle.hex.specs.Hex.{digitOf, digitAt, allDigits}
 use Rattle.parsing.specs.Frame.{parsed, parsed-digits}
 use Rattle.lines.specs.Quick.{Looked}

@@ -7,7 +7,7 @@ use native.Mathlib.Omega.{arith}
 use native.Mathlib.Nat.{add-zero, zero-add, suc-add}
 use lib.ListN.{length}
 use Rattle.rules.specs.Choice.{pick, by}
-use Rattle.rules.specs.Search.{all}
+use Rattle.tools.specs.Search.{all}
 use Rattle.hex.specs.Hex.{digitAt, allDigits}
 use Rattle.hex.specs.Read.{byteOf, byte-was}
 use Rattle.hex_read.specs.Many.{eight, eight-was, eight-left}

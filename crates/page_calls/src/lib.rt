@@ -1,7 +1,7 @@
 // Page transfers between Normal and the world that calls.
 ghost use mathlib.Core.Path.{_≡_};
 ghost use Rattle.mapping.specs.Lists.{held};
-ghost use Rattle.judgements.specs.Names.{normal};
+ghost use Rattle.rules.specs.Sizes.{normal};
 ghost use Rattle.judgements.specs.Judge.{oneOf, takers, moving, granuleIn, granuleOut, taking, giving};
 use judgements::Answer;
 use judgements::Args;
@@ -9,7 +9,6 @@ use judgements::Caller;
 use judgements::Deed;
 use judgements::Judged;
 use judgements::grant;
-use judgements::names;
 use judgements::refuse;
 use mapping::Lists;
 use pages::Owners;
@@ -21,8 +20,8 @@ fn may_take(world: u64) -> bool
     ensures { λ r. ⌜ r ≡ oneOf world takers ⌝ }
 {
     match world {
-        names::SECURE => true,
-        names::REALM => true,
+        rules::SECURE => true,
+        rules::REALM => true,
         _ => false,
     }
 }
@@ -41,15 +40,15 @@ fn moved(t: Verdict, count: u64, to: u64) -> Judged
 pub fn granule_in(v: Caller, owners: &Owners, lists: &Lists, a: Args) -> Judged
     ensures { λ r. ⌜ r ≡ granuleIn v (now (owners .entry)) (held (now (lists .entry)) normal) a ⌝ }
 {
-    if v.world != names::REALM {
+    if v.world != rules::REALM {
         return refuse(Reason::Unserved);
     }
     let start = a.x1;
     let w = v.window;
     moved(
-        transfers::judge(w, owners, lists, names::NORMAL, start, 1),
+        transfers::judge(w, owners, lists, rules::NORMAL, start, 1),
         1,
-        names::REALM,
+        rules::REALM,
     )
 }
 
@@ -57,7 +56,7 @@ pub fn granule_in(v: Caller, owners: &Owners, lists: &Lists, a: Args) -> Judged
 pub fn granule_out(v: Caller, owners: &Owners, lists: &Lists, a: Args) -> Judged
     ensures { λ r. ⌜ r ≡ granuleOut v (now (owners .entry)) (held (now (lists .entry)) (v .world)) a ⌝ }
 {
-    if v.world != names::REALM {
+    if v.world != rules::REALM {
         return refuse(Reason::Unserved);
     }
     let start = a.x1;
@@ -65,7 +64,7 @@ pub fn granule_out(v: Caller, owners: &Owners, lists: &Lists, a: Args) -> Judged
     moved(
         transfers::judge(w, owners, lists, v.world, start, 1),
         1,
-        names::NORMAL,
+        rules::NORMAL,
     )
 }
 
@@ -80,7 +79,7 @@ pub fn take_pages(v: Caller, owners: &Owners, lists: &Lists, a: Args) -> Judged
     let count = a.x2;
     let w = v.window;
     moved(
-        transfers::judge_several(w, owners, lists, names::NORMAL, start, count),
+        transfers::judge_several(w, owners, lists, rules::NORMAL, start, count),
         count,
         v.world,
     )
@@ -99,6 +98,6 @@ pub fn give_pages(v: Caller, owners: &Owners, lists: &Lists, a: Args) -> Judged
     moved(
         transfers::judge_several(w, owners, lists, v.world, start, count),
         count,
-        names::NORMAL,
+        rules::NORMAL,
     )
 }

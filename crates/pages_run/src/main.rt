@@ -64,7 +64,7 @@ fn say_answer(a: Answer) {
 fn digit(sign: u8) -> u64
     ensures { λ r. ⌜ r ≤ 16 ⌝ }
 {
-    let n = rules::wide(sign);
+    let n = tools::wide(sign);
     if n < 48 {
         return 16;
     }

@@ -4,7 +4,7 @@ use mathlib.Core.List.{List, [], _∷_, _++_, map}
 use Prim.Native.Nat.{ℕ}
 use lib.ListN.{replicate}
 use Rattle.rules.specs.Choice.{pick}
-use Rattle.rules.specs.Search.{all}
+use Rattle.tools.specs.Search.{all}
 use Rattle.hex.specs.Hex.{digitOf, allDigits, value, numbers}
 use Rattle.hex.specs.Signs.{signs}
 use Rattle.parsing.specs.Frame.{noHex, sized, kind, frameOf, numbersOf}

@@ -8,7 +8,7 @@ use lib.ListN.{length}
 use native.Mathlib.Omega.{arith}
 use borrow.Author.Tests.{lt-ltb, le-ltb, eq-eqb, ne-eqb, eqb-true, eqb-false}
 use Rattle.rules.specs.Choice.{pick, pick-yes, pick-no, picked, passed, by, either, yes-or-no, first-or, second-or, neither, not-true, not-false}
-use Rattle.rules.specs.Search.{all, all-at, all-if}
+use Rattle.tools.specs.Search.{all, all-at, all-if}
 use Rattle.hex.specs.Hex.{digitAt, allDigits, number, numbers}
 use Rattle.hex_read.specs.Many.{eight}
 use Rattle.parsing.specs.declared.Status.{Status}

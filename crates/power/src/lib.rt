@@ -29,7 +29,7 @@ fn good_start(w: Window, owners: &Owners, address: u64) -> bool
     let Place::Page(page) = w.page_of(address) else {
         return false;
     };
-    pages::owner_of(owners, page) == names::NORMAL
+    pages::owner_of(owners, page) == rules::NORMAL
 }
 
 fn on_core(powers: &Powers, core: u64) -> bool
@@ -48,7 +48,7 @@ fn pending_core(powers: &Powers, core: u64) -> bool
 pub fn start_core(v: Caller, powers: &Powers, owners: &Owners, a: Args) -> Judged
     ensures { λ r. ⌜ r ≡ starting v (now (powers .entry)) (now (owners .entry)) a ⌝ }
 {
-    if v.world != names::NORMAL {
+    if v.world != rules::NORMAL {
         return refuse(Reason::Unserved);
     }
     let core = a.x1;
@@ -100,7 +100,7 @@ fn stated(powers: &Powers, core: u64) -> Judged
 pub fn tell_state(v: Caller, powers: &Powers, a: Args) -> Judged
     ensures { λ r. ⌜ r ≡ tellingState v (now (powers .entry)) a ⌝ }
 {
-    if v.world != names::NORMAL {
+    if v.world != rules::NORMAL {
         return refuse(Reason::Unserved);
     }
     let core = a.x1;
@@ -118,7 +118,7 @@ pub fn tell_state(v: Caller, powers: &Powers, a: Args) -> Judged
 pub fn go_off(v: Caller) -> Judged
     ensures { λ r. ⌜ r ≡ goingOff v ⌝ }
 {
-    if v.world != names::NORMAL {
+    if v.world != rules::NORMAL {
         return refuse(Reason::Unserved);
     }
     grant(Answer::Silent, Deed::GoOff)
@@ -128,7 +128,7 @@ pub fn go_off(v: Caller) -> Judged
 pub fn power_version(v: Caller) -> Judged
     ensures { λ r. ⌜ r ≡ versioning v ⌝ }
 {
-    if v.world != names::NORMAL {
+    if v.world != rules::NORMAL {
         return refuse(Reason::Unserved);
     }
     grant(Answer::PowerVersion, Deed::Nothing)
@@ -161,7 +161,7 @@ fn known_power(a: Args) -> Judged
 pub fn power_features(v: Caller, a: Args) -> Judged
     ensures { λ r. ⌜ r ≡ powerFeaturing v a ⌝ }
 {
-    if v.world != names::NORMAL {
+    if v.world != rules::NORMAL {
         return refuse(Reason::Unserved);
     }
     known_power(a)

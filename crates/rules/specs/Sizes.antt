@@ -48,3 +48,13 @@ virtualLimit = 4294967296
 -- attributes are 0, 1 where the pages may be written, 2 where they may be run
 abbrev pub lastAttributes : ℕ
 lastAttributes = 2
+
+-- the highest owner number, type (0 yielding, 1 fast) and handler (architecture, board, standard, trusted system)
+abbrev pub lastOwner : ℕ
+lastOwner = 63
+
+abbrev pub lastKind : ℕ
+lastKind = 1
+
+abbrev pub lastHandler : ℕ
+lastHandler = 3

@@ -1,7 +1,7 @@
 // Handler 2: core power, single pages, and Realm's hand-over and finish.
 ghost use mathlib.Core.Path.{_≡_};
 ghost use Rattle.mapping.specs.Lists.{held};
-ghost use Rattle.judgements.specs.Names.{normal};
+ghost use Rattle.rules.specs.Sizes.{normal};
 ghost use Rattle.judgements.specs.Judge.{handlerSight, handingToRealm, realmCall, standard};
 use cores::Powers;
 use judgements::Args;
@@ -32,7 +32,7 @@ fn hand_to_realm(v: Caller, key: u32) -> Judged
     if names::REALM_LAST < key {
         return refuse(Reason::Unserved);
     }
-    hand_over(names::REALM, v)
+    hand_over(rules::REALM, v)
 }
 
 // Single pages, and Realm's hand-over and finish.
@@ -42,7 +42,7 @@ fn realm_call(v: Caller, owners: &Owners, lists: &Lists, a: Args, key: u32) -> J
     match key {
         names::GRANULE_TO_REALM => granule_in(v, owners, lists, a),
         names::GRANULE_TO_NORMAL => granule_out(v, owners, lists, a),
-        names::REALM_FINISH => finish(names::REALM, v),
+        names::REALM_FINISH => finish(rules::REALM, v),
         _ => hand_to_realm(v, key),
     }
 }

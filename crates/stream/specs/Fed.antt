@@ -8,7 +8,7 @@ use lib.Dec.{ltb}
 use lib.ListN.{length}
 use borrow.Author.Tests.{lt-ltb, le-ltb}
 use Rattle.rules.specs.Choice.{pick, pick-yes, pick-no, either}
-use Rattle.rules.specs.Laid.{put}
+use Rattle.tools.specs.Laid.{put}
 use Rattle.parsing.specs.Frame.{isCall}
 use Rattle.lines.specs.Lines.{endOf, lineAt, lined, nextOf, end-from}
 use Rattle.lines.specs.Input.{reading-of, next-found, next-unfinished, next-inside}

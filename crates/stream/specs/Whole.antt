@@ -9,7 +9,7 @@ use lib.ListN.{length, take, drop, length-append, length-drop, take-append-drop}
 use lib.Seq.{length-take-le}
 use borrow.Author.Tests.{ltb-true, ltb-false, eqb-true, eqb-false}
 use Rattle.rules.specs.Choice.{pick, chosen, either}
-use Rattle.rules.specs.Laid.{put, laid, put-fits, laid-append, length-laid}
+use Rattle.tools.specs.Laid.{put, laid, put-fits, laid-append, length-laid}
 use Rattle.parsing.specs.Frame.{isCall, no-call, parsed-frame}
 use Rattle.lines.specs.Lines.{linesOf, endOf, lineAt, nextOf, Unbroken, lines-first, line-unbroken, rest-unbroken, end-from}
 use Rattle.lines.specs.Input.{reading, readings, reading-of, Found, next-found, next-unfinished, next-inside}

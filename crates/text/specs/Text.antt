@@ -6,7 +6,7 @@ use native.Mathlib.Omega.{arith}
 use lib.ListN.{length, set, length-append}
 use borrow.Author.Tests.{le-leb}
 use Rattle.rules.specs.Choice.{pick-yes}
-use Rattle.rules.specs.Laid.{laid, put, laid-one, length-laid, laid-append, put-fits, put-not}
+use Rattle.tools.specs.Laid.{laid, put, laid-one, length-laid, laid-append, put-fits, put-not}
 use Rattle.hex.specs.Hex.{inHex, length-hex}
 use Rattle.hex_write.specs.Digits.{fourText, length-four}
 use Rattle.parsing.specs.Frame.{statusByte}

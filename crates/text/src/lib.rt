@@ -4,7 +4,7 @@ ghost use mathlib.Core.Path.{_≡_};
 ghost use mathlib.Core.List.{[], _∷_};
 ghost use Prim.Native.Nat.{_+_, _≤_};
 ghost use lib.ListN.{length};
-ghost use Rattle.rules.specs.Laid.{put};
+ghost use Rattle.tools.specs.Laid.{put};
 ghost use Rattle.parsing.specs.Frame.{statusByte};
 ghost use Rattle.text.specs.Text.{headText, statusText, callText};
 

@@ -14,7 +14,7 @@ use rules::Reason;
 pub fn hand_over(to: u64, v: Caller) -> Judged
     ensures { λ r. ⌜ r ≡ handing to v ⌝ }
 {
-    if v.world != names::NORMAL {
+    if v.world != rules::NORMAL {
         return refuse(Reason::Unserved);
     }
     grant(Answer::Silent, Deed::HandOver(to))
@@ -38,7 +38,7 @@ pub fn trusted_call(v: Caller, key: u32) -> Judged
     ensures { λ r. ⌜ r ≡ trusted v key ⌝ }
 {
     if key == names::SECURE_FINISH {
-        return finish(names::SECURE, v);
+        return finish(rules::SECURE, v);
     }
-    hand_over(names::SECURE, v)
+    hand_over(rules::SECURE, v)
 }

@@ -10,7 +10,7 @@ use lib.ListN.{length, take, drop, set, length-take, length-drop, length-append,
 use lib.Seq.{take-at, take-all, take-take, take-add, drop-at, length-take-le, take-suc-set}
 use borrow.Author.Tests.{lt-ltb, le-ltb, eq-eqb, ne-eqb, le-leb, leb-true, leb-false}
 use Rattle.rules.specs.Choice.{pick, picked, passed, pick-yes, either, both-true, left-false, right-false}
-use Rattle.rules.specs.Laid.{laid, put-take, length-laid}
+use Rattle.tools.specs.Laid.{laid, put-take, length-laid}
 use Rattle.lines.specs.Lines.{part}
 use Rattle.lines.specs.Parts.{complete, unfinished, both-parts}
 use Rattle.lines.specs.Front.{keeps, atFront, fronted}

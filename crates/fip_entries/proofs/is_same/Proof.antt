@@ -1,7 +1,7 @@
 -- `is_same` meets its promise, since each pass takes one byte off those that are still to be compared.
 use mathlib.Core.Path.{_≡_}
 use Prim.Native.Nat.{_+_}
-use Rattle.rules.specs.Search.{all, all-goes, all-stops, all-ends}
+use Rattle.tools.specs.Search.{all, all-goes, all-stops, all-ends}
 use Rattle.fip_entries.specs.Entries.{same, agrees, agrees-yes, agrees-no}
 use borrow.Author.Needs.{needs}
 use Rattle.fip_entries.proofs.is_same.Statement.{statement}

@@ -1,7 +1,7 @@
 -- `is_alike` meets its promise, since each pass takes one place off a run that is judged as a whole.
 use mathlib.Core.Path.{_≡_}
 use Prim.Native.Nat.{_+_}
-use Rattle.rules.specs.Search.{all, all-goes, all-stops, all-ends}
+use Rattle.tools.specs.Search.{all, all-goes, all-stops, all-ends}
 use Rattle.fip_identifiers.specs.Identifiers.{agree, agree-yes, agree-no}
 use borrow.Author.Needs.{needs}
 use Rattle.fip_identifiers.proofs.is_alike.Statement.{statement}

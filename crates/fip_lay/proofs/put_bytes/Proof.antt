@@ -1,7 +1,7 @@
 -- `put_bytes` meets its promise, since each pass lays one byte, and the bytes that are left, laid behind it, make the same of the space.
 use mathlib.Core.Path.{_≡_}
 use Prim.Native.Nat.{_+_}
-use Rattle.rules.specs.Laid.{laid}
+use Rattle.tools.specs.Laid.{laid}
 use Rattle.fip_lay.specs.Laying.{Laying, laying-past, bytes-start, bytes-go, bytes-end}
 use Rattle.fip_lay.specs.Bytes.{copied}
 use borrow.Author.Needs.{needs}

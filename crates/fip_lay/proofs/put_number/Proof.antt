@@ -1,5 +1,5 @@
 -- `put_number` meets its promise, since each pass lays the lowest byte of what is left of the number.
-use Rattle.rules.specs.Laid.{laid}
+use Rattle.tools.specs.Laid.{laid}
 use Rattle.fip_lay.specs.Laying.{Laying, laying-starts, laying-past, number-goes, number-ends}
 use Rattle.fip_lay.specs.Bytes.{spell}
 use borrow.Author.Needs.{needs}

@@ -2,7 +2,7 @@
 use mathlib.Core.Path.{_≡_}
 use Prim.Native.Nat.{_+_}
 use Rattle.rules.specs.Tests.{said}
-use Rattle.rules.specs.Search.{any, any-goes, any-stops, any-ends}
+use Rattle.tools.specs.Search.{any, any-goes, any-stops, any-ends}
 use Rattle.fip_table.specs.Question.{clashes}
 use borrow.Author.Needs.{needs}
 use Rattle.fip_table.proofs.any_clashes.Statement.{statement}

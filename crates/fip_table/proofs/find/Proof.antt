@@ -2,7 +2,7 @@
 use mathlib.Core.Path.{_≡_}
 use Prim.Native.Nat.{_+_}
 use Rattle.rules.specs.Tests.{said}
-use Rattle.rules.specs.Search.{first, first-goes, first-stops, first-ends}
+use Rattle.tools.specs.Search.{first, first-goes, first-stops, first-ends}
 use Rattle.fip_table.specs.Question.{answers}
 use borrow.Author.Needs.{needs}
 use Rattle.fip_table.proofs.find.Statement.{statement}

@@ -1,6 +1,6 @@
 -- `hex_write::put_one` meets its promise: it is one byte.
 use borrow.Author.Needs.{needs}
-use Rattle.rules.specs.Laid.{laid-one}
+use Rattle.tools.specs.Laid.{laid-one}
 use Rattle.hex_write.proofs.put_one.Statement.{statement}
 use Rattle.hex_write.proofs.put_one.Tie as tie
 

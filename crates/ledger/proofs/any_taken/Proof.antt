@@ -1,7 +1,7 @@
 -- The loop keeps the question over all owners equal to that over the owners that are left.
 use mathlib.Core.Path.{_≡_}
 use Prim.Native.Nat.{_+_, _≤_}
-use Rattle.rules.specs.Search.{any, searches}
+use Rattle.tools.specs.Search.{any, searches}
 use Rattle.rules.specs.Tests.{said}
 use Rattle.ledger.specs.Ledger.{taken}
 use borrow.Author.Needs.{needs}

@@ -2,7 +2,7 @@
 use mathlib.Core.Path.{_≡_}
 use Prim.Native.Nat.{_+_, _≤_}
 use borrow.Author.Tests.{eq-eqb, ne-eqb}
-use Rattle.rules.specs.Search.{first, first-goes, first-stops, first-ends}
+use Rattle.tools.specs.Search.{first, first-goes, first-stops, first-ends}
 use Rattle.fip_text.specs.Rows.{dotAt, endOf}
 use borrow.Author.Needs.{needs}
 use Rattle.fip_text.proofs.names.end_of.Statement.{statement}

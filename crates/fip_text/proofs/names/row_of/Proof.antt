@@ -1,7 +1,7 @@
 -- `names::row_of` meets its promise, since each pass takes one row off a search for the first.
 use mathlib.Core.Path.{_≡_}
 use Prim.Native.Nat.{_+_}
-use Rattle.rules.specs.Search.{first, first-goes, first-stops, first-ends}
+use Rattle.tools.specs.Search.{first, first-goes, first-stops, first-ends}
 use Rattle.fip_text.specs.Rows.{isRow, rowOf}
 use Rattle.rules.specs.Tests.{said}
 use borrow.Author.Needs.{needs}

@@ -1,6 +1,6 @@
 -- `put_images` meets its promise, since each pass lays one image, and the images that are left, laid behind it, make the same of the space.
 use native.Mathlib.Omega.{arith}
-use Rattle.rules.specs.Laid.{laid}
+use Rattle.tools.specs.Laid.{laid}
 use Rattle.fip_table.specs.Table.{tableEnd}
 use Rattle.fip_lay.specs.Laying.{Laying}
 use Rattle.fip_plan.specs.Plan.{Reached, reached-start, reached-next, reached-in}

@@ -1,7 +1,7 @@
 -- `put_rows` meets its promise, since each pass lays one entry, and the entries that are left, laid behind it, make the same of the space.
 use Prim.Native.Nat.{_+_, _*_}
 use native.Mathlib.Omega.{arith}
-use Rattle.rules.specs.Laid.{laid}
+use Rattle.tools.specs.Laid.{laid}
 use Rattle.fip_table.specs.Table.{tableEnd}
 use Rattle.fip_lay.specs.Laying.{Laying}
 use Rattle.fip_plan.specs.Plan.{Reached, reached-start, reached-next, reached-in}
