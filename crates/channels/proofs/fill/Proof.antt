@@ -1,8 +1,11 @@
 -- The read is lent only what lies behind the kept bytes.
-use lib.Seq.{take-at, length-take-le}
 use borrow.Author.Needs.{needs}
-use Rattle.console.proofs.fill.Statement.{statement}
-use Rattle.console.proofs.fill.Tie as tie
+use Rattle.channels.specs.Filled.{fills-none, fills-behind}
+use Rattle.channels.proofs.fill.Statement.{statement}
+use Rattle.channels.proofs.fill.Tie as tie
+
+returns : tie.Need-returns
+returns c = fills-none _ _ (search needs)
 
 sub-read : tie.Need-sub-read
 sub-read c = search needs
@@ -34,13 +37,14 @@ add-result c = search needs
 same-length : tie.Need-same-length
 same-length c = search needs
 
-returns : tie.Need-returns
-returns c = (search needs, search needs, take-at _ _ _ (length-take-le (c .before .before .before .before .before .before .before .before .args .kept) (c .before .before .before .before .before .before .before .before .args .buf .now) (search needs)))
+returns-2 : tie.Need-returns-2
+returns-2 c = fills-behind _ _ _ _ (search needs) (search needs) (search needs)
 
 pub fill-spec : {M : Type 1} → statement M
 fill-spec =
     tie.close
     (tie.spec
+    returns
     sub-read
     part-read-start
     part-read-end
@@ -51,4 +55,4 @@ fill-spec =
     count-requires
     add-result
     same-length
-    returns)
+    returns-2)
