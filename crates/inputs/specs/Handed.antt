@@ -12,9 +12,9 @@ use Rattle.lines.specs.Lines.{Unbroken}
 use Rattle.lines.specs.Input.{readings-closed}
 use Rattle.lines.specs.Parts.{complete, unfinished}
 use Rattle.frames.specs.Frames.{Machine}
-use Rattle.stream.specs.Run.{printed, leftBy, printed-alike, left-alike}
-use Rattle.stream.specs.Cut.{line-complete}
-use Rattle.waiting.specs.Waiting.{ended, heard, front, sized, served}
+use Rattle.inputs.specs.Run.{printed, leftBy, printed-alike, left-alike}
+use Rattle.inputs.specs.Cut.{line-complete}
+use Rattle.inputs.specs.Waiting.{ended, heard, front, sized, served}
 
 -- the bytes that wait become a line with its newline
 ended-complete : (l : List ℕ) → complete (ended l) ≡ ended l

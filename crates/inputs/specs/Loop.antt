@@ -16,11 +16,11 @@ use Rattle.pages.specs.Named.{unnamed}
 use Rattle.mapping.specs.Lists.{unmapped}
 use Rattle.setup.specs.Table.{unset}
 use Rattle.frames.specs.Frames.{Machine, machine, first}
-use Rattle.stream.specs.Run.{leftBy}
-use Rattle.stream.specs.Cut.{unfinished-so}
-use Rattle.waiting.specs.Waiting.{heard, front, served}
-use Rattle.waiting.specs.Reads.{Between, between, after, left, joined, all-left}
-use Rattle.waiting.specs.Handed.{read-handed, end-handed}
+use Rattle.inputs.specs.Run.{leftBy}
+use Rattle.inputs.specs.Cut.{unfinished-so}
+use Rattle.inputs.specs.Waiting.{heard, front, served}
+use Rattle.inputs.specs.Reads.{Between, between, after, left, joined, all-left}
+use Rattle.inputs.specs.Handed.{read-handed, end-handed}
 
 -- a machine that an input leaves
 pub record Ran (m m′ : Machine) : Type 0 where

@@ -13,9 +13,9 @@ use Rattle.lines.specs.Lines.{Unbroken}
 use Rattle.lines.specs.Input.{readings, readings-cut}
 use Rattle.lines.specs.Parts.{complete, unfinished}
 use Rattle.frames.specs.Frames.{Machine}
-use Rattle.stream.specs.Run.{printed, leftBy, printed-alike, left-alike}
-use Rattle.stream.specs.Parts.{in-parts, left-in-parts}
-use Rattle.stream.specs.Cut.{unfinished-so}
+use Rattle.inputs.specs.Run.{printed, leftBy, printed-alike, left-alike}
+use Rattle.inputs.specs.Parts.{in-parts, left-in-parts}
+use Rattle.inputs.specs.Cut.{unfinished-so}
 
 -- the machine between two reads, and the bytes that wait
 pub record Between : Type 0 where

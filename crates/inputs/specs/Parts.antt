@@ -6,7 +6,7 @@ use Rattle.lines.specs.Input.{readings}
 use Rattle.lines.specs.Parts.{complete, unfinished, both-parts, readings-parts}
 use Rattle.parsing.specs.declared.Frame.{Frame}
 use Rattle.frames.specs.Frames.{Machine}
-use Rattle.stream.specs.Run.{answers, printed, reached, leftBy, answers-two, reached-two}
+use Rattle.inputs.specs.Run.{answers, printed, reached, leftBy, answers-two, reached-two}
 
 -- some complete lines before any bytes
 module _ (m : Machine) (a b : List ℕ) where

@@ -1,48 +1,25 @@
--- What a read calls for: which bytes are answered, what is to be written, what waits then, and the machine.
+-- How the code's branches meet the definitions of Waiting: one law for each, and one for the whole.
 use mathlib.Core.Path.{_≡_, refl, sym, ap, _∙_}
-use mathlib.Core.Bool.{true, false, _&&_}
+use mathlib.Core.Bool.{true, false}
 use mathlib.Core.List.{List, [], _∷_, _++_}
-use Prim.Native.Nat.{ℕ, _+_, _-_, _≤_, _<_, min}
+use Prim.Native.Nat.{ℕ, _+_, _-_, _≤_, _<_}
 use native.Mathlib.Numerals.{add-one}
 use native.Mathlib.Omega.{arith}
-use lib.Dec.{eqb, ltb, leb}
+use lib.Dec.{eqb, leb}
 use lib.ListN.{length, take, drop, set, length-take, length-drop, length-append, length-set}
 use lib.Seq.{take-at, take-all, take-take, take-add, drop-at, length-take-le, take-suc-set}
 use borrow.Author.Tests.{lt-ltb, le-ltb, eq-eqb, ne-eqb, le-leb, leb-true, leb-false}
-use Rattle.rules.specs.Choice.{pick, picked, passed, pick-yes, either, both-true, left-false, right-false}
+use Rattle.rules.specs.Choice.{picked, passed, pick-yes, either, both-true, left-false, right-false}
 use Rattle.rules.specs.Laid.{laid, put-take, length-laid}
 use Rattle.lines.specs.Lines.{part}
 use Rattle.lines.specs.Parts.{complete, unfinished, both-parts}
 use Rattle.lines.specs.Front.{keeps, atFront, fronted}
 use Rattle.frames.specs.Frames.{Machine}
-use Rattle.stream.specs.Run.{printed, leftBy}
-use Rattle.stream.specs.Fed.{Stand, stand, fed}
-use Rattle.stream.specs.Whole.{fed-whole, printed-fits}
+use Rattle.inputs.specs.Run.{printed, leftBy}
+use Rattle.inputs.specs.Fed.{Stand, stand, fed}
+use Rattle.inputs.specs.Whole.{fed-whole, printed-fits}
+use Rattle.inputs.specs.Waiting.{ended, heard, front, sized, served}
 
--- ---- the bytes that are answered
--- a last line that lacks its newline gets one
-unfoldable pub ended : List ℕ → List ℕ
-ended [] = []
-ended (b ∷ l) = (b ∷ l) ++ 10 ∷ []
-
--- the first n bytes; and where nothing was read behind the `kept` that waited, though there was room, the input has ended
-unfoldable pub heard : List ℕ → ℕ → ℕ → List ℕ
-heard buf kept n = pick (eqb n kept && ltb n (length buf)) (ended (take n buf)) (take n buf)
-
--- ---- what is handed over for them
--- so many bytes at the front, and what they are
-abbrev pub front : ℕ → List ℕ → ℕ × List ℕ
-front n l = (n, take n l)
-
-abbrev pub sized : List ℕ → ℕ × List ℕ
-sized l = (length l, l)
-
--- the machine after the complete lines, the answers to them, which are to be written, and what waits: a line that lacks its newline,
--- or its first 133 bytes, one more than a frame may have
-unfoldable pub served : Machine → List ℕ → Machine × ((ℕ × List ℕ) × (ℕ × List ℕ))
-served m s = (leftBy m (complete s), (sized (printed m (complete s)), sized (take 133 (unfinished s))))
-
--- ---- how the code's branches meet these
 -- the first `end` bytes are those that are answered
 pub record Closed (buf : List ℕ) (kept n end : ℕ) (b : List ℕ) : Type 0 where
   pub bytes : take end b ≡ heard buf kept n

@@ -10,6 +10,7 @@ use borrow.Author.Tests.{lt-ltb, le-ltb}
 use Rattle.rules.specs.Choice.{pick, pick-yes, pick-no, either}
 use Rattle.rules.specs.Laid.{put}
 use Rattle.parsing.specs.Frame.{isCall}
+use Rattle.text.specs.Text.{longest}
 use Rattle.lines.specs.Lines.{endOf, lineAt, lined, nextOf, end-from}
 use Rattle.lines.specs.Input.{reading-of, next-found, next-unfinished, next-inside}
 use Rattle.parsing.specs.declared.Frame.{Frame}
@@ -29,9 +30,17 @@ pub record Stand : Type 0 where
 abbrev pub stand : Machine → ℕ → ℕ → List ℕ → Stand
 stand m at done out = record { machine = m; read = at; done = done; out = out }
 
+-- whether there is no room for the longest answer
+abbrev pub full : Stand → Bool
+full d = ltb (length (d .out) - d .done) longest
+
+-- where the next answer is put: behind those before it
+abbrev pub place : Stand → ℕ
+place d = d .done
+
 -- once a line is answered that ends before `after`
 abbrev pub stepped : Stand → Frame → ℕ → List ℕ → Stand
-stepped d f after xs = let a = answered (d .machine) f xs (d .out) (d .done) in stand (a .0) after (a .1 .0) (a .1 .1)
+stepped d f after xs = let a = answered (d .machine) f xs (d .out) (place d) in stand (a .0) after (a .1 .0) (a .1 .1)
 
 -- a whole line is answered, and then the feed goes on; else it stays
 abbrev pub onward : Stand → (Stand → Stand) → Next × List ℕ → Stand
@@ -41,7 +50,7 @@ onward d go (Unfinished, xs) = d
 -- at most n lines, each with room for the longest answer
 unfoldable pub fedIn : ℕ → List ℕ → Stand → Stand
 fedIn zero s d = d
-fedIn (suc n) s d = pick (ltb (length (d .out) - d .done) 71) d (onward d (fedIn n s) (nextOf s (d .read) []))
+fedIn (suc n) s d = pick (full d) d (onward d (fedIn n s) (nextOf s (d .read) []))
 
 -- a feed from where it stands to where it stops; there are no more lines than bytes
 unfoldable pub fed : List ℕ → Stand → Stand
@@ -75,7 +84,7 @@ module _ (s : List ℕ) where
   unfolding fedIn
   at-end zero d h = refl
   at-end (suc n) d h =
-      either (ltb (length (d .out) - d .done) 71) (λ y. pick-yes _ _ _ y)
+      either (full d) (λ y. pick-yes _ _ _ y)
       (λ k. pick-no _ _ _ k ∙ ap (onward d (fedIn n s)) (past (d .read) h))
 
   same : (d : Stand) (go stop : Stand → Stand) → ((f : Frame) (after : ℕ) (xs : List ℕ) → nextOf s (d .read) [] ≡ (Line f after, xs) → go (stepped d f after xs) ≡ stop (stepped d f after xs))
@@ -88,19 +97,19 @@ module _ (s : List ℕ) where
   enough zero k d h l = sym (at-end k d (omega arith))
   enough (suc n) zero d h l = at-end (suc n) d (omega arith)
   enough (suc n) (suc k) d h l =
-      ap (λ (q : Stand). pick (ltb (length (d .out) - d .done) 71) d q)
+      ap (λ (q : Stand). pick (full d) d q)
       (same d (fedIn n s) (fedIn k s) (λ f after xs e. let i = next-inside s [] xs (d .read) f after (sym e) in enough n k (stepped d f after xs) (omega arith) (omega arith)) (nextOf s (d .read) []) refl)
 
   -- ---- where it stays
   module _ (d : Stand) where
     -- no room
-    pub fed-full : length (d .out) - d .done < 71 → d ≡ fed s d
+    pub fed-full : length (d .out) - d .done < longest → d ≡ fed s d
     unfolding fed fedIn
-    fed-full h = sym (full (length s - d .read))
+    fed-full h = sym (stays (length s - d .read))
       where
-        full : (n : ℕ) → fedIn n s d ≡ d
-        full zero = refl
-        full (suc n) = pick-yes _ _ _ (lt-ltb _ _ h)
+        stays : (n : ℕ) → fedIn n s d ≡ d
+        stays zero = refl
+        stays (suc n) = pick-yes _ _ _ (lt-ltb (length (d .out) - d .done) _ (omega (arith, h)))
 
     -- no bytes
     pub fed-end : length s ≤ d .read → d ≡ fed s d
@@ -117,10 +126,10 @@ module _ (s : List ℕ) where
 
         still : (n : ℕ) → fedIn n s d ≡ d
         still zero = refl
-        still (suc n) = either (ltb (length (d .out) - d .done) 71) (λ y. pick-yes _ _ _ y) (λ k. pick-no _ _ _ k ∙ ap (onward d (fedIn n s)) none)
+        still (suc n) = either (full d) (λ y. pick-yes _ _ _ y) (λ k. pick-no _ _ _ k ∙ ap (onward d (fedIn n s)) none)
 
     -- ---- and where it goes on
-    pub fed-line : (k : Next) (xs ys : List ℕ) → (k, ys) ≡ nextOf s (d .read) xs → (f : Frame) (after : ℕ) → k ≡ Line f after → 71 ≤ length (d .out) - d .done
+    pub fed-line : (k : Next) (xs ys : List ℕ) → (k, ys) ≡ nextOf s (d .read) xs → (f : Frame) (after : ℕ) → k ≡ Line f after → longest ≤ length (d .out) - d .done
         → fed s (stepped d f after ys) ≡ fed s d
     unfolding fed fedIn
     fed-line k xs ys e f after is h =
@@ -128,14 +137,14 @@ module _ (s : List ℕ) where
         let i = next-inside s xs ys (d .read) f after line in
         let n : length s - d .read ≡ suc (length s - d .read - 1) = omega arith in
         rw n
-        (sym (pick-no _ _ _ (le-ltb (length (d .out) - d .done) 71 h)
+        (sym (pick-no _ _ _ (le-ltb (length (d .out) - d .done) longest h)
         ∙ ap (onward d (fedIn (length s - d .read - 1) s)) (plain (d .read) f after xs ys line)
         ∙ enough (length s - d .read - 1) (length s - after) (stepped d f after (pick (isCall f) ys [])) (omega arith) (omega arith)
-        ∙ ap (λ (q : Machine × Reply). fedIn (length s - after) s (stand (q .0) after (put (d .out) (d .done) (textOf (q .1)) .0) (put (d .out) (d .done) (textOf (q .1)) .1))) (numbers-idle (d .machine) f ys)))
+        ∙ ap (λ (q : Machine × Reply). fedIn (length s - after) s (stand (q .0) after (put (d .out) (place d) (textOf (q .1)) .0) (put (d .out) (place d) (textOf (q .1)) .1))) (numbers-idle (d .machine) f ys)))
 
 -- ---- how the code's branches meet these
 module _ (s : List ℕ) (m : Machine) (at done : ℕ) (out : List ℕ) (o : Stand) (inv : fed s (stand m at done out) ≡ o) where
-  pub stops-full : length out - done < 71 → stand m at done out ≡ o
+  pub stops-full : length out - done < longest → stand m at done out ≡ o
   stops-full h = fed-full s (stand m at done out) h ∙ inv
 
   pub stops-end : length s ≤ at → stand m at done out ≡ o
@@ -145,8 +154,8 @@ module _ (s : List ℕ) (m : Machine) (at done : ℕ) (out : List ℕ) (o : Stan
     pub stops-unfinished : k ≡ Unfinished → stand m at done out ≡ o
     stops-unfinished is = fed-unfinished s (stand m at done out) k xs ys e is ∙ inv
 
-    pub goes-on : (f : Frame) (after : ℕ) → k ≡ Line f after → 71 ≤ length out - done → (m′ : Machine) (out′ : List ℕ) (done′ : ℕ)
-        → (m′, (done′, out′)) ≡ answered m f ys out done → fed s (stand m′ after done′ out′) ≡ o
+    pub goes-on : (f : Frame) (after : ℕ) → k ≡ Line f after → longest ≤ length out - done → (m′ : Machine) (out′ : List ℕ) (done′ : ℕ)
+        → (m′, (done′, out′)) ≡ answered m f ys out (place (stand m at done out)) → fed s (stand m′ after done′ out′) ≡ o
     goes-on f after is h m′ out′ done′ a =
         ap (λ (q : Machine × (ℕ × List ℕ)). fed s (stand (q .0) after (q .1 .0) (q .1 .1))) a ∙ fed-line s (stand m at done out) k xs ys e f after is h ∙ inv
 

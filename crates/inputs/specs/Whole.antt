@@ -4,13 +4,14 @@ use mathlib.Core.Bool.{true, false}
 use mathlib.Core.List.{List, [], _∷_, _++_, append-nil, append-assoc}
 use Prim.Native.Nat.{ℕ, zero, suc, _+_, _-_, _*_, _≤_, _<_}
 use native.Mathlib.Omega.{arith}
-use lib.Dec.{ltb, eqb}
+use lib.Dec.{eqb}
 use lib.ListN.{length, take, drop, length-append, length-drop, take-append-drop}
 use lib.Seq.{length-take-le}
 use borrow.Author.Tests.{ltb-true, ltb-false, eqb-true, eqb-false}
 use Rattle.rules.specs.Choice.{pick, chosen, either}
 use Rattle.rules.specs.Laid.{put, laid, put-fits, laid-append, length-laid}
 use Rattle.parsing.specs.Frame.{isCall, no-call, parsed-frame}
+use Rattle.text.specs.Text.{longest}
 use Rattle.lines.specs.Lines.{linesOf, endOf, lineAt, nextOf, Unbroken, lines-first, line-unbroken, rest-unbroken, end-from}
 use Rattle.lines.specs.Input.{reading, readings, reading-of, Found, next-found, next-unfinished, next-inside}
 use Rattle.lines.specs.Parts.{complete, unfinished}
@@ -19,10 +20,10 @@ use Rattle.lines.specs.declared.Next.the-variants.{Line, Unfinished}
 use Rattle.frames.specs.Frames.{Machine, framed}
 use Rattle.calling.specs.declared.Reply.{Reply}
 use Rattle.answering.specs.Answer.{textOf, answered, numbers-idle, text-short, text-told}
-use Rattle.stream.specs.Run.{answers, printed, reached, leftBy, left-none, printed-none}
-use Rattle.stream.specs.Parts.{lines-printed, lines-left}
-use Rattle.stream.specs.Cut.{unbroken-so, line-complete, parted, line-more}
-use Rattle.stream.specs.Fed.{Stand, stand, stepped, fedIn, fed, by-next}
+use Rattle.inputs.specs.Run.{answers, printed, reached, leftBy, left-none, printed-none}
+use Rattle.inputs.specs.Parts.{lines-printed, lines-left}
+use Rattle.inputs.specs.Cut.{unbroken-so, line-complete, parted, line-more}
+use Rattle.inputs.specs.Fed.{Stand, stand, full, stepped, fedIn, fed, by-next}
 
 -- a machine m has read up to a place behind a newline, and what it prints for that is laid over what was there
 pub record Answers (s : List ℕ) (m : Machine) (was : List ℕ) (d : Stand) : Type 0 where
@@ -61,7 +62,7 @@ module _ (s : List ℕ) (m : Machine) (out : List ℕ) where
   answers-none =
       record { lines = refl; inside = omega arith; machine = sym (left-none m); done = rw printed-none; out = rw printed-none; room = omega arith; few = omega arith }
 
-  module _ (d : Stand) (a : Answers s m out d) (f : Frame) (after : ℕ) (xs : List ℕ) (line : (Line f after, xs) ≡ nextOf s (d .read) []) (h : 71 ≤ length (d .out) - d .done) where
+  module _ (d : Stand) (a : Answers s m out d) (f : Frame) (after : ℕ) (xs : List ℕ) (line : (Line f after, xs) ≡ nextOf s (d .read) []) (h : longest ≤ length (d .out) - d .done) where
     found : Found s (d .read) [] f after xs
     found = next-found s [] xs (d .read) f after line
 
@@ -98,7 +99,7 @@ module _ (s : List ℕ) (m : Machine) (out : List ℕ) where
     size : length (d .out) ≡ length out
     size = ap length (a .out) ∙ length-laid out 0 (printed m (take (d .read) s))
 
-    short : length text ≤ 71
+    short : length text ≤ longest
     unfolding text
     short = text-short (framed (d .machine) f xs .1)
 
@@ -139,20 +140,20 @@ module _ (s : List ℕ) (m : Machine) (out : List ℕ) where
   unfolding fedIn
   answers-in zero d a = a
   answers-in (suc n) d a =
-      chosen (Answers s m out) (ltb (length (d .out) - d .done) 71) d _ (λ y. a)
+      chosen (Answers s m out) (full d) d _ (λ y. a)
       (λ k. by-next s (Answers s m out) d (fedIn n s) (λ xs e. a)
       (λ f after xs e. answers-in n (stepped d f after xs) (answers-more d a f after xs (sym e) (ltb-false _ _ k)))
       (nextOf s (d .read) []) refl)
 
 -- nothing is left but a line that lacks its newline, where the longest answer still fits
 abbrev Through : List ℕ → Stand → Type 0
-Through s d = 71 ≤ length (d .out) - d .done → Unbroken (drop (d .read) s)
+Through s d = longest ≤ length (d .out) - d .done → Unbroken (drop (d .read) s)
 
 through-in : (s : List ℕ) (n : ℕ) (d : Stand) → length s - d .read ≤ n → Through s (fedIn n s d)
 unfolding fedIn
 through-in s zero d h = λ g. rest-unbroken s (d .read) (let e = end-from s (d .read) in omega arith)
 through-in s (suc n) d h =
-    chosen (Through s) (ltb (length (d .out) - d .done) 71) d _ (λ y g. absurd (omega (arith, ltb-true (length (d .out) - d .done) 71 y)))
+    chosen (Through s) (full d) d _ (λ y g. absurd (omega (arith, ltb-true (length (d .out) - d .done) longest y)))
     (λ k. by-next s (Through s) d (fedIn n s) (λ xs e g. rest-unbroken s (d .read) (next-unfinished s [] xs (d .read) (sym e) .0))
     (λ f after xs e. let i = next-inside s [] xs (d .read) f after (sym e) in through-in s n (stepped d f after xs) (omega arith))
     (nextOf s (d .read) []) refl)
@@ -164,12 +165,12 @@ module _ (s : List ℕ) (m : Machine) (out : List ℕ) where
   fed-answers = answers-in s m out (length s - 0) (stand m 0 0 out) (answers-none s m out)
 
   -- Where the longest answer still fits, it leaves nothing but a line that lacks its newline.
-  pub fed-through : let d = fed s (stand m 0 0 out) in 71 ≤ length (d .out) - d .done → Unbroken (drop (d .read) s)
+  pub fed-through : let d = fed s (stand m 0 0 out) in longest ≤ length (d .out) - d .done → Unbroken (drop (d .read) s)
   unfolding fed
   fed-through = through-in s (length s - 0) (stand m 0 0 out) (omega arith)
 
   -- Where there is room for five bytes for each byte that is read, and for one answer more, every complete line is answered.
-  pub fed-whole : 5 * length s + 71 ≤ length out
+  pub fed-whole : 5 * length s + longest ≤ length out
       → fed s (stand m 0 0 out) ≡ stand (leftBy m (complete s)) (length (complete s)) (length (printed m (complete s))) (laid out 0 (printed m (complete s)))
   fed-whole h =
       let d = fed s (stand m 0 0 out) in
@@ -185,5 +186,5 @@ module _ (s : List ℕ) (m : Machine) (out : List ℕ) where
       alike a b c d = rw (a, b, c, d)
 
   -- Then what is printed for them fits.
-  pub printed-fits : 5 * length s + 71 ≤ length out → length (printed m (complete s)) ≤ length out
+  pub printed-fits : 5 * length s + longest ≤ length out → length (printed m (complete s)) ≤ length out
   printed-fits h = omega (arith, ap (λ (d : Stand). d .done) (fed-whole h), fed-answers .room)
