@@ -15,8 +15,8 @@ use Rattle.parsing.specs.declared.Frame.{Frame}
 use Rattle.parsing.specs.declared.Frame.the-variants as Frame
 use Rattle.parsing.specs.declared.Status.{Status}
 use Rattle.text.specs.Text.{statusText, callText, longest, length-status, length-call}
-use Rattle.calling.specs.declared.Reply.{Reply}
-use Rattle.calling.specs.declared.Reply.the-variants.{Told, Called}
+use Rattle.showing.specs.declared.Reply.{Reply}
+use Rattle.showing.specs.declared.Reply.the-variants.{Told, Called}
 use Rattle.frames.specs.Frames.{Machine, framed}
 
 -- the text of an answer

@@ -22,8 +22,8 @@ use Rattle.parsing.specs.declared.Frame.{Frame}
 use Rattle.parsing.specs.declared.Frame.the-variants as Frame
 use Rattle.setup.specs.Table.{ready}
 use Rattle.frames.specs.Frames.{Machine, first, stateOf}
-use Rattle.calling.specs.declared.Reply.{Reply}
-use Rattle.calling.specs.declared.Reply.the-variants.{Told, Called}
+use Rattle.showing.specs.declared.Reply.{Reply}
+use Rattle.showing.specs.declared.Reply.the-variants.{Told, Called}
 use Rattle.answering.specs.Answer.{textOf}
 use Rattle.inputs.specs.Run.{answers, printed}
 use Rattle.guarantees.specs.Runs.{Event, Events, byte, next, reply, Taken, ran, replies, replies-count, Allowed, Follows, by-following, follows-is, follows-ran}

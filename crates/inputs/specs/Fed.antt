@@ -16,7 +16,7 @@ use Rattle.lines.specs.Input.{reading-of, next-found, next-unfinished, next-ins
 use Rattle.parsing.specs.declared.Frame.{Frame}
 use Rattle.lines.specs.declared.Next.{Next}
 use Rattle.lines.specs.declared.Next.the-variants.{Line, Unfinished}
-use Rattle.calling.specs.declared.Reply.{Reply}
+use Rattle.showing.specs.declared.Reply.{Reply}
 use Rattle.frames.specs.Frames.{Machine}
 use Rattle.answering.specs.Answer.{textOf, answered, numbers-idle, put-inside}
 

@@ -18,7 +18,7 @@ use Rattle.lines.specs.Parts.{complete, unfinished}
 use Rattle.parsing.specs.declared.Frame.{Frame}
 use Rattle.lines.specs.declared.Next.the-variants.{Line, Unfinished}
 use Rattle.frames.specs.Frames.{Machine, framed}
-use Rattle.calling.specs.declared.Reply.{Reply}
+use Rattle.showing.specs.declared.Reply.{Reply}
 use Rattle.answering.specs.Answer.{textOf, answered, numbers-idle, text-short, text-told}
 use Rattle.inputs.specs.Run.{answers, printed, reached, leftBy, left-none, printed-none}
 use Rattle.inputs.specs.Parts.{lines-printed, lines-left}

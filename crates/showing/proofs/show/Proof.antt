@@ -1,8 +1,8 @@
 -- The core's power says which world is shown.
 use borrow.Author.Needs.{needs}
-use Rattle.calling.specs.Laws.{showings}
-use Rattle.calling.proofs.show.Statement.{statement}
-use Rattle.calling.proofs.show.Tie as tie
+use Rattle.showing.specs.Showing.{showings}
+use Rattle.showing.proofs.show.Statement.{statement}
+use Rattle.showing.proofs.show.Tie as tie
 
 power-of-requires : tie.Need-power-of-requires
 power-of-requires c κs = search needs
