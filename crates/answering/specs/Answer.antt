@@ -14,9 +14,9 @@ use Rattle.parsing.specs.Frame.{isCall}
 use Rattle.parsing.specs.declared.Frame.{Frame}
 use Rattle.parsing.specs.declared.Frame.the-variants as Frame
 use Rattle.parsing.specs.declared.Status.{Status}
-use Rattle.text.specs.Text.{statusText, callText, length-status, length-call}
-use Rattle.calling.specs.declared.Reply.{Reply}
-use Rattle.calling.specs.declared.Reply.the-variants.{Told, Called}
+use Rattle.text.specs.Text.{statusText, callText, longest, length-status, length-call}
+use Rattle.showing.specs.declared.Reply.{Reply}
+use Rattle.showing.specs.declared.Reply.the-variants.{Told, Called}
 use Rattle.frames.specs.Frames.{Machine, framed}
 
 -- the text of an answer
@@ -39,8 +39,8 @@ numbers-idle m (Frame.Call core) ys = refl
 numbers-idle m (Frame.Arrival core) ys = refl
 numbers-idle m (Frame.Refused why) ys = refl
 
--- the longest answer has 71 bytes
-pub text-short : (r : Reply) → length (textOf r) ≤ 71
+-- no answer is longer than a call's
+pub text-short : (r : Reply) → length (textOf r) ≤ longest
 text-short (Told s) = let e = length-status s in omega arith
 text-short (Called core world shown) = let e = length-call core world (shown .x0) (shown .x1) (shown .x2) (shown .x3) in omega arith
 

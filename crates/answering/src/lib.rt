@@ -3,7 +3,6 @@ ghost use mathlib.Core.Path.{_≡_};
 ghost use Rattle.tools.specs.Laid.{put};
 ghost use Rattle.frames.specs.Frames.{machine};
 ghost use Rattle.answering.specs.Answer.{textOf, answered};
-use calling::Reply;
 use cores::Powers;
 use cores::Turns;
 use ledger::Ledger;
@@ -13,6 +12,7 @@ use pages::Owners;
 use parsing::Frame;
 use registers::Saved;
 use setup::Setup;
+use showing::Reply;
 
 // The text of an answer, and the place behind it.
 fn put_reply(out: &mut [u8], at: usize, r: Reply) -> usize

@@ -1,18 +1,16 @@
 -- Frame 20: what it does to set-up and to the state of the calls, and how it is answered.
 use mathlib.Core.List.{List}
 use Prim.Native.Nat.{ℕ}
-use Rattle.rules.specs.Choice.{pick}
-use Rattle.registers.specs.Registers.{shownOf}
 use Rattle.cores.specs.Power.{isOn}
-use Rattle.cores.specs.Cores.{power, turn}
-use Rattle.judgements.specs.Names.{normal}
+use Rattle.cores.specs.Cores.{power}
 use Rattle.calls.specs.Step.{State, called}
 use Rattle.calls.specs.declared.Site.{Site}
 use Rattle.parsing.specs.declared.Status.{Status}
 use Rattle.setup.specs.Table.{window, cores, over}
 use Rattle.setup.specs.Frames.{coreRuled}
-use Rattle.calling.specs.declared.Reply.{Reply}
-use Rattle.calling.specs.declared.Reply.the-variants.{Told, Called}
+use Rattle.showing.specs.Showing.{shownOn}
+use Rattle.showing.specs.declared.Reply.{Reply}
+use Rattle.showing.specs.declared.Reply.the-variants.{Told}
 use Rattle.calling.specs.declared.Tried.{Tried}
 use Rattle.calling.specs.declared.Tried.the-variants as Tried
 
@@ -26,11 +24,7 @@ trying s w core xs =
     coreRuled (λ (why : Status). ((s, w), Tried.Refused why)) s core (isOn (power (w .powers) core))
     ((over s, called w core xs .0), Tried.Called (called w core xs .1))
 
--- the core, the world that now runs there, and its x0 to x3; where the core went OFF, 255 and Normal's
-unfoldable pub shownOn : ℕ → List ℕ → List ℕ → List ℕ → Reply
-shownOn core r p t =
-    pick (isOn (power p core)) (Called core (turn t core .world) (shownOf r core (turn t core .world))) (Called core 255 (shownOf r core normal))
-
+-- what is shown after it
 abbrev pub shownIn : ℕ → State → Reply
 shownIn core w = shownOn core (w .saved) (w .powers) (w .turns)
 

@@ -1,17 +1,12 @@
 -- How the code's branches meet the definitions of Calling: one law for each outcome.
 use mathlib.Core.Path.{_≡_, _∙_}
-use mathlib.Core.Bool.{Bool, true, false}
+use mathlib.Core.Bool.{Bool}
 use mathlib.Core.List.{List}
 use Prim.Native.Nat.{ℕ}
-use Rattle.rules.specs.Choice.{picked, passed}
-use Rattle.registers.specs.Registers.{shownOf}
-use Rattle.registers.specs.declared.Shown.{Shown}
 use Rattle.cores.specs.Power.{isOn}
-use Rattle.cores.specs.Cores.{power, turn}
+use Rattle.cores.specs.Cores.{power}
 use Rattle.cores.specs.declared.Power.{Power}
-use Rattle.cores.specs.declared.Turn.{Turn}
 use Rattle.pages.specs.declared.Window.{Window}
-use Rattle.judgements.specs.Names.{normal}
 use Rattle.calls.specs.Step.{State, state, called}
 use Rattle.calls.specs.declared.Site.{Site}
 use Rattle.calls.specs.declared.Made.{Made}
@@ -21,11 +16,11 @@ use Rattle.setup.specs.Frames.{coreVerdict}
 use Rattle.setup.specs.Laws.{core-refused, core-granted}
 use Rattle.setup.specs.declared.Verdict.{Verdict}
 use Rattle.setup.specs.declared.Verdict.the-variants as Verdict
-use Rattle.calling.specs.declared.Reply.{Reply}
-use Rattle.calling.specs.declared.Reply.the-variants.{Told, Called}
+use Rattle.showing.specs.declared.Reply.{Reply}
+use Rattle.showing.specs.declared.Reply.the-variants.{Told}
 use Rattle.calling.specs.declared.Tried.{Tried}
 use Rattle.calling.specs.declared.Tried.the-variants as Tried
-use Rattle.calling.specs.Calling.{siteOf, trying, shownOn, shownIn, calling}
+use Rattle.calling.specs.Calling.{siteOf, trying, shownIn, calling}
 
 -- ---- what set-up has fixed, and a frame for a core
 pub site-so : (s : List ℕ) (w : Window) (n : ℕ) → w ≡ window s → n ≡ cores s → record { window = w; cores = n } ≡ siteOf s
@@ -33,18 +28,6 @@ site-so s w n e h = rw (e, h)
 
 pub asks-on : (s p : List ℕ) (core : ℕ) (w : Power) (fits : Bool) (v : Verdict) → w ≡ power p core → fits ≡ isOn w → v ≡ coreVerdict s core fits → v ≡ coreVerdict s core (isOn (power p core))
 asks-on s p core w fits v has said is = is ∙ rw (said, has)
-
--- ---- what is shown after a call
-module _ (core : ℕ) (r p t : List ℕ) (w : Power) (on : Bool) (is : w ≡ power p core) (said : on ≡ isOn w) where
-  pub shows-on : (u : Turn) (x : Shown) → on ≡ true → u ≡ turn t core → x ≡ shownOf r core (u .world) → Called core (u .world) x ≡ shownOn core r p t
-  unfolding shownOn
-  shows-on u x e f h = picked _ _ _ _ (rw (← is, ← said) e) (rw (h, f))
-
-  pub shows-off : (x : Shown) → on ≡ false → x ≡ shownOf r core normal → Called core 255 x ≡ shownOn core r p t
-  unfolding shownOn
-  shows-off x e h = passed _ _ _ _ (rw (← is, ← said) e) (rw h)
-
-pub ruleset showings = (shows-on, shows-off)
 
 -- ---- a call
 module _ (s l o r p t k : List ℕ) (core : ℕ) (xs : List ℕ) (v : Verdict) (is : v ≡ coreVerdict s core (isOn (power p core))) where

@@ -4,7 +4,7 @@ ghost use Rattle.cores.specs.Power.{isOn};
 ghost use Rattle.cores.specs.Cores.{power};
 ghost use Rattle.calls.specs.Step.{state};
 ghost use Rattle.setup.specs.Frames.{coreVerdict};
-ghost use Rattle.calling.specs.Calling.{siteOf, trying, shownOn, calling};
+ghost use Rattle.calling.specs.Calling.{siteOf, trying, calling};
 use calls::Made;
 use calls::Site;
 use cores::Powers;
@@ -14,24 +14,15 @@ use mapping::Lists;
 use pages::Owners;
 use parsing::Status;
 use registers::Saved;
-use registers::Shown;
 use setup::Setup;
 use setup::Verdict;
-
-// How a frame is answered. The world is 255 where the core is not ON after the call.
-pub enum Reply {
-    Told(Status),
-    Called { core: u64, world: u64, shown: Shown },
-}
+use showing::Reply;
 
 // What becomes of the frame of a call: it is refused, or who called and what was answered.
 pub enum Tried {
     Refused(Status),
     Called(Made),
 }
-
-// The world shown for a core that is not ON.
-const NO_WORLD: u64 = 255;
 
 // What set-up has fixed for the calls.
 fn site_of(setup: &Setup) -> Site
@@ -75,25 +66,6 @@ pub fn try_call(
     Tried::Refused(why)
 }
 
-// What is shown of a core after its call.
-fn show(core: u64, saved: &Saved, powers: &Powers, turns: &Turns) -> Reply
-    ensures { λ r. ⌜ r ≡ shownOn core (now (saved .entry)) (now (powers .entry)) (now (turns .entry)) ⌝ }
-{
-    let power = cores::power_of(powers, core);
-    if power.is_on() {
-        let turn = cores::turn_of(turns, core);
-        let world = turn.world;
-        let shown = registers::show(saved, core, world);
-        return Reply::Called { core, world, shown };
-    }
-    let shown = registers::show(saved, core, judgements::names::NORMAL);
-    Reply::Called {
-        core,
-        world: NO_WORLD,
-        shown,
-    }
-}
-
 // Frame 20, and what is shown after it.
 pub fn make_call(
     setup: &mut Setup,
@@ -111,6 +83,6 @@ pub fn make_call(
     let tried = try_call(setup, core, x, book, owners, saved, powers, turns, lists);
     match tried {
         Tried::Refused(why) => Reply::Told(why),
-        Tried::Called(_) => show(core, saved, powers, turns),
+        Tried::Called(_) => showing::show(core, saved, powers, turns),
     }
 }

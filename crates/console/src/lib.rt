@@ -1,15 +1,11 @@
 // The loop of reads and writes: standard input to standard output, each line answered as soon as it has been read.
 ghost use mathlib.Core.Path.{_≡_};
 ghost use mathlib.Core.Bool.{true};
-ghost use Prim.Native.Nat.{_≤_};
-ghost use lib.ListN.{length, take};
 ghost use Rattle.frames.specs.Frames.{machine};
-ghost use Rattle.console.specs.Loop.{Ran, Left};
+ghost use Rattle.inputs.specs.Loop.{Ran, Left};
 use cores::Powers;
 use cores::Turns;
 use ledger::Ledger;
-use libc::STDIN_FILENO;
-use libc::STDOUT_FILENO;
 use mapping::Lists;
 use pages::Named;
 use pages::Owners;
@@ -17,24 +13,6 @@ use registers::Saved;
 use setup::Setup;
 use waiting::Input;
 use waiting::Output;
-
-// Reads behind the first `kept` bytes, which stay, and says how many bytes there are then: `kept` where the input has
-// ended or cannot be read.
-fn fill(buf: &mut [u8], kept: usize) -> usize
-    requires { ⌜ kept ≤ length (now buf) ⌝ }
-    ensures { λ r. ⌜ (kept ≤ r) × (r ≤ length (now (buf .exit))) × (take kept (now (buf .exit)) ≡ take kept (now (buf .entry))) ⌝ }
-{
-    let got = libc::read(STDIN_FILENO, &mut buf[kept..]);
-    kept + io::count(got, &buf[kept..])
-}
-
-// Writes the first n bytes; whether they could be written.
-fn write(out: &Output, n: usize) -> bool
-    requires { ⌜ n ≤ length (now out) ⌝ }
-{
-    let text: &[u8] = out;
-    io::write_all(STDOUT_FILENO, &text[0..n])
-}
 
 // Reads until the input ends, or a write fails: whether the input ended. The count only has the loop end: no input needs so
 // many reads.
@@ -55,7 +33,7 @@ fn serve(
     let mut kept: usize = 0;
     let mut left = u64::MAX;
     while left > 0 {
-        let n = fill(buf, kept);
+        let n = channels::fill(buf, kept);
         let due = waiting::answer_read(
             buf,
             kept,
@@ -70,7 +48,7 @@ fn serve(
             turns,
             lists,
         );
-        if !write(out, due.put) {
+        if !channels::write(out, due.put) {
             return false;
         }
         if n == kept {

@@ -21,9 +21,10 @@ use Rattle.setup.specs.Table.{ready, ended, window, cores, fixed, over, fixed-r
 use Rattle.setup.specs.Statuses.{ruled-by}
 use Rattle.setup.specs.Frames.{fits}
 use Rattle.setup.specs.Outcomes.{sited-by, entering-by, naming-in-by}
-use Rattle.calling.specs.Calling.{siteOf, trying, shownOn, replied, performed, calling}
-use Rattle.calling.specs.declared.Reply.{Reply}
-use Rattle.calling.specs.declared.Reply.the-variants.{Told, Called}
+use Rattle.calling.specs.Calling.{siteOf, trying, replied, performed, calling}
+use Rattle.showing.specs.Showing.{shownOn}
+use Rattle.showing.specs.declared.Reply.{Reply}
+use Rattle.showing.specs.declared.Reply.the-variants.{Told, Called}
 use Rattle.calling.specs.declared.Tried.{Tried}
 use Rattle.arriving.specs.Arriving.{arriving}
 use Rattle.frames.specs.Frames.{Machine, stateOf, coreTablesOf, withSetup, withLedger, withPages, withState, withCoreTables, framed}

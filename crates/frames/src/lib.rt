@@ -1,7 +1,6 @@
 // Any frame: one of set-up, a call, an arrival, or nothing where the line is no frame.
 ghost use mathlib.Core.Path.{_≡_};
 ghost use Rattle.frames.specs.Frames.{machine, framed};
-use calling::Reply;
 use cores::Powers;
 use cores::Turns;
 use ledger::Ledger;
@@ -11,6 +10,7 @@ use pages::Owners;
 use parsing::Frame;
 use registers::Saved;
 use setup::Setup;
+use showing::Reply;
 
 // Any frame, with the eight numbers that stand beside it.
 pub fn step(

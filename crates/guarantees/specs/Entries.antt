@@ -27,8 +27,8 @@ use Rattle.parsing.specs.declared.Frame.the-variants as Frame
 use Rattle.calling.specs.Calling.{performed}
 use Rattle.frames.specs.Frames.{Machine, first, framed, stateOf}
 use Rattle.frames.specs.Stays.{framed-by}
-use Rattle.calling.specs.declared.Reply.{Reply}
-use Rattle.calling.specs.declared.Reply.the-variants.{Told, Called}
+use Rattle.showing.specs.declared.Reply.{Reply}
+use Rattle.showing.specs.declared.Reply.the-variants.{Told, Called}
 use Rattle.guarantees.specs.Runs.{Event, Events, next, reply, ran}
 
 -- ---- the entries that a run has accepted

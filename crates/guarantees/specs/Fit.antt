@@ -29,7 +29,7 @@ use Rattle.setup.specs.Frames.{fits}
 use Rattle.calling.specs.Calling.{performed}
 use Rattle.frames.specs.Frames.{Machine, machine, first, stateOf, coreTablesOf, withSetup, withPages, withState, withCoreTables}
 use Rattle.frames.specs.Stays.{framed-by, call-state, arrival-state}
-use Rattle.calling.specs.declared.Reply.{Reply}
+use Rattle.showing.specs.declared.Reply.{Reply}
 use Rattle.guarantees.specs.Runs.{Event, Events, next, ran, always}
 
 pub record Fit (m : Machine) : Type 0 where

@@ -10,7 +10,7 @@ use Rattle.parsing.specs.declared.Status.the-variants.{Accepted}
 use Rattle.parsing.specs.declared.Frame.the-variants as Frame
 use Rattle.setup.specs.Table.{window}
 use Rattle.frames.specs.Frames.{Machine, stateOf}
-use Rattle.calling.specs.declared.Reply.the-variants.{Told}
+use Rattle.showing.specs.declared.Reply.the-variants.{Told}
 use Rattle.judgements.specs.Asked.{Granted}
 use Rattle.guarantees.specs.Runs.{Event, Events, next, reply, Taken, ran}
 

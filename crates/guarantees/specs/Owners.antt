@@ -29,8 +29,8 @@ use Rattle.setup.specs.Table.{ready, ended, window}
 use Rattle.calling.specs.Calling.{performed}
 use Rattle.frames.specs.Frames.{Machine, first, framed, stateOf}
 use Rattle.frames.specs.Stays.{framed-by, shown-not-told, settled, call-ends}
-use Rattle.calling.specs.declared.Reply.{Reply}
-use Rattle.calling.specs.declared.Reply.the-variants.{Told, Called}
+use Rattle.showing.specs.declared.Reply.{Reply}
+use Rattle.showing.specs.declared.Reply.the-variants.{Told, Called}
 use Rattle.guarantees.specs.Runs.{Event, Events, byte, next, reply, ran, ran-two, always}
 use Rattle.judgements.specs.Asked.{granted-moves, moves-granted}
 use Rattle.guarantees.specs.Named.{Transfers, Names, Unmoved, Unnamed, LastTransfer, NamedBy, Named, by-transfer, by-set-up, as-before}

@@ -8,10 +8,10 @@ use Rattle.parsing.specs.declared.Status.{Status}
 use Rattle.parsing.specs.declared.Frame.{Frame}
 use Rattle.parsing.specs.declared.Frame.the-variants as Frame
 use Rattle.frames.specs.Frames.{Machine, first, framed}
-use Rattle.calling.specs.declared.Reply.{Reply}
-use Rattle.calling.specs.declared.Reply.the-variants.{Told}
-unfoldable pub use Rattle.stream.specs.Run.{reached as ran}
-pub use Rattle.stream.specs.Run.{reached-two as ran-two}
+use Rattle.showing.specs.declared.Reply.{Reply}
+use Rattle.showing.specs.declared.Reply.the-variants.{Told}
+unfoldable pub use Rattle.inputs.specs.Run.{reached as ran}
+pub use Rattle.inputs.specs.Run.{reached-two as ran-two}
 
 -- a line as it is read: its frame, and the eight numbers of a call
 abbrev pub Event : Type 0

@@ -38,8 +38,8 @@ use Rattle.setup.specs.Table.{ready, ended, cores, over}
 use Rattle.setup.specs.Table as Table
 use Rattle.calling.specs.Calling.{siteOf, shownIn}
 use Rattle.frames.specs.Frames.{Machine, machine, first, stateOf}
-use Rattle.calling.specs.declared.Reply.{Reply}
-use Rattle.calling.specs.declared.Reply.the-variants.{Told}
+use Rattle.showing.specs.declared.Reply.{Reply}
+use Rattle.showing.specs.declared.Reply.the-variants.{Told}
 use Rattle.answering.specs.Answer.{textOf}
 use Rattle.guarantees.specs.Runs.{Event, Events, Taken}
 use Rattle.judgements.specs.Asked.{key, HandsTo, Finishes, Reached}

@@ -26,8 +26,8 @@ use Rattle.setup.specs.Table.{ready, ended, cores, over}
 use Rattle.calling.specs.Calling.{performed, shownIn}
 use Rattle.frames.specs.Frames.{Machine, framed, stateOf, coreTablesOf, withState, withCoreTables}
 use Rattle.frames.specs.Stays.{framed-by, shown-not-told, refused-same, told-goes-on, call-ends}
-use Rattle.calling.specs.declared.Reply.{Reply}
-use Rattle.calling.specs.declared.Reply.the-variants.{Told, Called}
+use Rattle.showing.specs.declared.Reply.{Reply}
+use Rattle.showing.specs.declared.Reply.the-variants.{Told, Called}
 use Rattle.guarantees.specs.Runs.{Event, byte, next, reply, Taken}
 use Rattle.judgements.specs.Judge.{oneOf, callers}
 use Rattle.judgements.specs.Asked.{hand-over-asked, finish-asked, asked-hand-over, asked-finish}

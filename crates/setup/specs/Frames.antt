@@ -3,6 +3,7 @@ use mathlib.Core.Bool.{Bool, false, not, _&&_, _||_}
 use mathlib.Core.List.{List}
 use Prim.Native.Nat.{ℕ}
 use lib.Dec.{leb}
+use Rattle.rules.specs.Sizes.{mostCores}
 use Rattle.rules.specs.Choice.{pick}
 use Rattle.ledger.specs.Ledger.{entered}
 use Rattle.rules.specs.declared.Entered.{Entered}
@@ -20,7 +21,7 @@ use Rattle.setup.specs.Statuses.{ruled}
 -- ---- 11: the window and the number of cores, once
 -- a window that there may be, and 1 to 8 cores
 unfoldable pub fits : Window → ℕ → Bool
-fits w cores = acceptable w && (leb 1 cores && leb cores 8)
+fits w cores = acceptable w && (leb 1 cores && leb cores mostCores)
 
 unfoldable pub sited : List ℕ → ℕ → ℕ → ℕ → List ℕ × Status
 sited s base pages cores =

@@ -5,6 +5,7 @@ use mathlib.Core.List.{List}
 use Prim.Native.Nat.{ℕ, _≤_, _<_}
 use lib.Dec.{leb}
 use borrow.Author.Tests.{le-leb, lt-leb}
+use Rattle.rules.specs.Sizes.{mostCores}
 use Rattle.rules.specs.Choice.{picked, passed, left-false, right-false, first-or, not-true, not-false}
 use Rattle.ledger.specs.Ledger.{entered}
 use Rattle.rules.specs.declared.Entered.{Entered}
@@ -29,7 +30,7 @@ module _ (w : Window) (cores : ℕ) (a : Bool) (is : a ≡ acceptable w) where
   unfolding fits
   no-core h = sym (right-false (acceptable w) _ (left-false _ _ (lt-leb _ _ h)))
 
-  pub some-cores : a ≡ true → 1 ≤ cores → leb cores 8 ≡ fits w cores
+  pub some-cores : a ≡ true → 1 ≤ cores → leb cores mostCores ≡ fits w cores
   unfolding fits
   some-cores e h = rw (← is, e, le-leb 1 cores h)
 

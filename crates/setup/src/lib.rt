@@ -8,6 +8,7 @@ use pages::Owners;
 use pages::Window;
 use parsing::Status;
 use rules::Entered;
+use rules::MOST_CORES;
 
 // Whether a site was accepted, whether a call has ended set-up, and the site: base and pages of the window, and the cores.
 pub type Setup = [u64; 5];
@@ -17,9 +18,6 @@ pub enum Verdict {
     Granted,
     Refused(Status),
 }
-
-// The most cores that there may be.
-const MOST_CORES: u64 = 8;
 
 // Set-up before the first frame.
 pub fn fresh() -> Setup

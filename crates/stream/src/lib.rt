@@ -1,7 +1,7 @@
 // The run over any bytes: each complete line of a chunk is answered, and what is unfinished waits for more.
 ghost use mathlib.Core.Path.{_≡_};
 ghost use Rattle.frames.specs.Frames.{machine};
-ghost use Rattle.stream.specs.Fed.{stand, fed};
+ghost use Rattle.inputs.specs.Fed.{stand, fed};
 use cores::Powers;
 use cores::Turns;
 use ledger::Ledger;
@@ -11,9 +11,6 @@ use pages::Named;
 use pages::Owners;
 use registers::Saved;
 use setup::Setup;
-
-// The longest answer, a call's.
-const LONGEST: usize = 71;
 
 // How far a chunk was read, and how much was printed.
 pub struct Fed {
@@ -40,7 +37,7 @@ pub fn feed(
     let mut at: usize = 0;
     let mut put: usize = 0;
     while at < chunk.len() {
-        if out.len() - put < LONGEST {
+        if out.len() - put < text::LONGEST {
             return Fed { used: at, put };
         }
         let Next::Line { frame, after } = lines::next_line(chunk, at, &mut x) else {

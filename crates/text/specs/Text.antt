@@ -25,6 +25,10 @@ unfoldable pub callText : ℕ → ℕ → ℕ → ℕ → ℕ → ℕ → List �
 callText core world x0 x1 x2 x3 = headText core world ++ (fourText x0 x1 x2 x3 ++ (10 ∷ []))
 
 -- ---- the size of each
+-- a call's is the longest
+abbrev pub longest : ℕ
+longest = 71
+
 pub length-status : (s : Status) → length (statusText s) ≡ 5
 unfolding statusText
 length-status s = simp (length-append, length-hex)
@@ -33,7 +37,7 @@ length-head : (core world : ℕ) → length (headText core world) ≡ 6
 unfolding headText
 length-head core world = simp (length-append, length-hex)
 
-pub length-call : (core world x0 x1 x2 x3 : ℕ) → length (callText core world x0 x1 x2 x3) ≡ 71
+pub length-call : (core world x0 x1 x2 x3 : ℕ) → length (callText core world x0 x1 x2 x3) ≡ longest
 unfolding callText
 length-call core world x0 x1 x2 x3 = simp (length-append, length-head, length-four)
 
@@ -91,7 +95,7 @@ module _ (o o₁ o₂ p : List ℕ) (at a b c : ℕ) where
   status-put s k e h x y z = put-three o o₁ o₂ p at a b c 2 2 1 _ _ _ (length-hex 2 0xa0) (length-hex 2 (statusByte s)) refl h x (rw e at y) z
 
   pub call-put :
-      (core world x0 x1 x2 x3 : ℕ) → at + 71 ≤ length o →
+      (core world x0 x1 x2 x3 : ℕ) → at + longest ≤ length o →
       (a, o₁) ≡ put o at (headText core world) → (b, o₂) ≡ put o₁ a (fourText x0 x1 x2 x3) → (c, p) ≡ put o₂ b (10 ∷ []) → (c, p) ≡ put o at (callText core world x0 x1 x2 x3)
   unfolding callText
   call-put core world x0 x1 x2 x3 h = put-three o o₁ o₂ p at a b c 6 64 1 _ _ _ (length-head core world) (length-four x0 x1 x2 x3) refl h
@@ -99,5 +103,5 @@ module _ (o o₁ o₂ p : List ℕ) (at a b c : ℕ) where
 pub status-not : (o : List ℕ) (at : ℕ) (s : Status) → length o < at + 5 → (at, o) ≡ put o at (statusText s)
 status-not o at s h = put-not o at (statusText s) 5 (length-status s) h
 
-pub call-not : (o : List ℕ) (at core world x0 x1 x2 x3 : ℕ) → length o < at + 71 → (at, o) ≡ put o at (callText core world x0 x1 x2 x3)
-call-not o at core world x0 x1 x2 x3 h = put-not o at (callText core world x0 x1 x2 x3) 71 (length-call core world x0 x1 x2 x3) h
+pub call-not : (o : List ℕ) (at core world x0 x1 x2 x3 : ℕ) → length o < at + longest → (at, o) ≡ put o at (callText core world x0 x1 x2 x3)
+call-not o at core world x0 x1 x2 x3 h = put-not o at (callText core world x0 x1 x2 x3) longest (length-call core world x0 x1 x2 x3) h

@@ -8,10 +8,10 @@ ghost use Rattle.tools.specs.Laid.{put};
 ghost use Rattle.parsing.specs.Frame.{statusByte};
 ghost use Rattle.text.specs.Text.{headText, statusText, callText};
 
-// The size of each answer, a status and a call.
+// The size of each answer: a status, and a call, the longest.
 const STATUS: usize = 5;
 
-const CALL: usize = 71;
+pub const LONGEST: usize = 71;
 
 // The paper's byte of a status.
 fn byte_of(s: Status) -> u64
@@ -77,10 +77,10 @@ pub fn put_call(
 ) -> usize
     ensures { λ r. ⌜ (r, now (out .exit)) ≡ put (now (out .entry)) at (callText core world x0 x1 x2 x3) ⌝ }
 {
-    if out.len() < CALL {
+    if out.len() < LONGEST {
         return at;
     }
-    if out.len() - CALL < at {
+    if out.len() - LONGEST < at {
         return at;
     }
     let a = put_head(out, at, core, world);

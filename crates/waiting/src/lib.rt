@@ -2,7 +2,8 @@
 // reads or writes.
 ghost use mathlib.Core.Path.{_≡_};
 ghost use Rattle.frames.specs.Frames.{machine};
-ghost use Rattle.waiting.specs.Waiting.{Closed, front, heard, served};
+ghost use Rattle.inputs.specs.Waiting.{front, heard, served};
+ghost use Rattle.inputs.specs.Served.{Closed};
 use cores::Powers;
 use cores::Turns;
 use ledger::Ledger;

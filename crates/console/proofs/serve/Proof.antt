@@ -2,8 +2,7 @@ use borrow.Author.Needs.{needs}
 use mathlib.Core.Path.{refl}
 use Rattle.rules.specs.Choice.{yes-or-no}
 use Rattle.frames.specs.Frames.{machine}
-use Rattle.console.specs.Loop.{Serving, serving-none, serving-on, served-all}
-use Rattle.waiting.specs.Handed.{put-inside}
+use Rattle.inputs.specs.Loop.{Serving, serving-none, serving-on, served-all}
 use Rattle.console.proofs.serve.Statement.{statement}
 use Rattle.console.proofs.serve.Tie as tie
 
@@ -25,16 +24,16 @@ answer-read-requires : tie.Need-answer-read-requires Inv-loop μ-loop
 answer-read-requires c κs = search needs
 
 write-requires : tie.Need-write-requires Inv-loop μ-loop
-write-requires c κs = put-inside _ _ _ _ _ _ _ (c .before .answer-read .ensures)
+write-requires c κs = search needs
 
 returns : tie.Need-returns Inv-loop μ-loop
 returns c y = absurd (yes-or-no _ y refl)
 
 returns-2 : tie.Need-returns-2 Inv-loop μ-loop
 returns-2 c y =
-    let v = c .before .before .before .before .before .before .before .before .before .before .before .before .before .before .before .before .before .before .loop .inv in
-    let f = c .before .before .before .before .before .before .before .before .before .before .before .before .before .before .before .fill in
-    served-all _ _ _ _ v _ _ (f .ensures .2) _ _ _ _ _ (c .before .before .before .before .answer-read .ensures) (search needs) (search needs)
+    let v = c .before .before .before .before .before .before .before .before .before .before .before .before .before .before .before .before .before .before .before .loop .inv in
+    let f = c .before .before .before .before .before .before .before .before .before .before .before .before .before .before .before .before .fill in
+    served-all _ _ _ _ v _ _ (f .ensures .same) _ _ _ _ _ (c .before .before .before .before .before .answer-read .ensures) (search needs) (search needs)
 
 sub-left : tie.Need-sub-left Inv-loop μ-loop
 sub-left c = search needs

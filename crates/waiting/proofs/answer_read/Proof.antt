@@ -1,6 +1,6 @@
 -- There is room for every answer, so one feed answers all the complete lines, and what it leaves has no newline.
 use borrow.Author.Needs.{needs}
-use Rattle.waiting.specs.Waiting.{serves}
+use Rattle.inputs.specs.Served.{serves}
 use Rattle.waiting.proofs.answer_read.Statement.{statement}
 use Rattle.waiting.proofs.answer_read.Tie as tie
 

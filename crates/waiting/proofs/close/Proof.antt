@@ -1,6 +1,6 @@
 -- Each return of `close` stands at a case of the definition.
 use borrow.Author.Needs.{needs}
-use Rattle.waiting.specs.Waiting.{closings}
+use Rattle.inputs.specs.Served.{closings}
 use Rattle.waiting.proofs.close.Statement.{statement}
 use Rattle.waiting.proofs.close.Tie as tie
 

@@ -1,0 +1,10 @@
+pub mod Run
+pub mod Cut
+pub mod Parts
+pub mod Fed
+pub mod Whole
+pub mod Waiting
+pub mod Handed
+pub mod Reads
+pub mod Served
+pub mod Loop

@@ -1,3 +1,0 @@
-pub mod Waiting
-pub mod Reads
-pub mod Handed
