@@ -1,6 +1,6 @@
 -- The lines of an input, and the line at a place of what was read of it.
 use mathlib.Core.Path.{_≡_, refl, sym, ap, _∙_}
-use mathlib.Core.Bool.{Bool, true}
+use mathlib.Core.Bool.{Bool, true, false}
 use mathlib.Core.Logic.{⊎-elim}
 use mathlib.Core.List.{List, [], _∷_, _++_, append-assoc}
 use Prim.Native.Nat.{ℕ, suc, _+_, _-_, _≤_, _<_}
@@ -13,10 +13,12 @@ use borrow.Author.Tests.{lt-ltb, le-ltb, eq-eqb, ne-eqb, eqb-true, eqb-false, lt
 use Rattle.rules.specs.Choice.{pick, picked, passed, either, yes-or-no}
 use Rattle.tools.specs.Search.{all-at, first, first-goes, first-stops, first-ends, first-is, Firstly}
 use Rattle.hex.specs.Hex.{digitOf, digitAt, allDigits}
-use Rattle.parsing.specs.Frame.{parsed, parsed-digits}
+use Rattle.parsing.specs.Frame.{parsed, parsed-digits, other-parsed, no-digits}
 use Rattle.lines.specs.Quick.{Looked}
 use Rattle.parsing.specs.declared.Frame.{Frame}
-use Rattle.parsing.specs.declared.Frame.the-variants.{Call}
+use Rattle.parsing.specs.declared.Frame.the-variants.{Call, Refused}
+use Rattle.parsing.specs.declared.Status.{Status}
+use Rattle.parsing.specs.declared.Status.the-variants.{NoHex}
 use Rattle.lines.specs.declared.Look.{Look}
 use Rattle.lines.specs.declared.Look.the-variants as Look
 use Rattle.lines.specs.declared.Next.{Next}
@@ -110,6 +112,10 @@ module _ (s xs : List ℕ) (at e : ℕ) where
   unfolding nextOf
   next-none d h = passed _ _ _ _ (le-ltb (endOf s at) (length s) (omega arith)) refl
 
+-- signs that are not all digits, up to the end of the line
+pub next-spoilt : (s xs : List ℕ) (at e end : ℕ) → end ≡ endOf s at → end ≡ e → e < length s → allDigits (part s at e) ≡ false → (Line (Refused NoHex) (e + 1), xs) ≡ nextOf s at xs
+next-spoilt s xs at e end d z h n = next-found s xs at e (Refused NoHex) xs (sym z ∙ d) h (other-parsed (part s at e) xs (Refused NoHex) (no-digits (part s at e) n) refl)
+
 pub next-past : (s xs : List ℕ) (at : ℕ) → length s < at → (Unfinished, xs) ≡ nextOf s at xs
 next-past s xs at h = next-none s xs at (endOf s at) refl (omega (arith, end-from s at))
 
@@ -143,8 +149,11 @@ module _ (s xs ys : List ℕ) (at e : ℕ) (look : Look) (n : e ≡ at + 132) (h
       (end-is s at e (omega arith) h g (λ k a b z. digits-no-newline (part s at e) (k - at) d (omega arith) (part-at s at e k a b ∙ z)))
       h p
 
-  pub next-slow : (r : Next × List ℕ) → look ≡ Look.NoCall → r ≡ nextOf s at ys → r ≡ nextOf s at xs
-  next-slow r c g = let p : ys ≡ xs = rw c at q in g ∙ ap (nextOf s at) p
+  pub next-other : (r : Next × List ℕ) → look ≡ Look.Other → r ≡ nextOf s at ys → r ≡ nextOf s at xs
+  next-other r c g = let p : ys ≡ xs = rw c at q in g ∙ ap (nextOf s at) p
+
+  pub next-no-hex : (r : Next × List ℕ) → look ≡ Look.NoHex → r ≡ nextOf s at ys → r ≡ nextOf s at xs
+  next-no-hex r c g = let p : (allDigits (part s at e) ≡ false) × (ys ≡ xs) = rw c at q in g ∙ ap (nextOf s at) (p .1)
 
 -- ---- the lines of an input, one after the other
 -- no newline in it

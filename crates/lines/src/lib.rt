@@ -2,11 +2,14 @@
 use hex::Byte;
 use parsing::Frame;
 use parsing::MOST;
+use parsing::Status;
 ghost use mathlib.Core.Path.{_≡_};
-ghost use Prim.Native.Nat.{min};
+ghost use mathlib.Core.Bool.{false};
+ghost use Prim.Native.Nat.{_<_, min};
 ghost use lib.ListN.{length};
 ghost use Rattle.lines.specs.Quick.{Looked};
-ghost use Rattle.lines.specs.Lines.{endOf, nextOf};
+ghost use Rattle.hex.specs.Hex.{allDigits};
+ghost use Rattle.lines.specs.Lines.{endOf, part, nextOf};
 ghost use Rattle.lines.specs.Front.{fronted};
 
 const NEWLINE: u8 = 10;
@@ -17,30 +20,32 @@ pub enum Next {
     Unfinished,
 }
 
-// What 132 signs are before a newline, with no search for an earlier one: a call on a core, or none.
+// What 132 signs are before a newline, with no search for an earlier one: a call on a core; signs that are not all digits; or
+// anything else.
 enum Look {
     Call(u64),
-    NoCall,
+    NoHex,
+    Other,
 }
 
-// A call and its numbers, or none, and the numbers are left.
+// A call and its numbers; all else leaves the numbers.
 fn quick(line: &[u8], xs: &mut [u64; 8]) -> Look
     requires { ⌜ length (now line) ≡ 132 ⌝ }
     ensures { λ r. ⌜ Looked (now (line .entry)) (now (xs .entry)) r (now (xs .exit)) ⌝ }
 {
     let Byte::Is(first) = hex::byte_at(line, 0) else {
-        return Look::NoCall;
+        return Look::Other;
     };
     if first != 0x20 {
-        return Look::NoCall;
+        return Look::Other;
     }
     let Byte::Is(core) = hex::byte_at(line, 1) else {
-        return Look::NoCall;
+        return Look::Other;
     };
     if hex_read::numbers(line, 2, xs) {
         return Look::Call(core);
     }
-    Look::NoCall
+    Look::NoHex
 }
 
 // Where the line at a place ends: at the first newline, or where the bytes end; a place past them is its own end.
@@ -57,11 +62,11 @@ pub fn line_end(s: &[u8], at: usize) -> usize
     i
 }
 
-// The next line, by way of its newline.
-fn scan(s: &[u8], at: usize, xs: &mut [u64; 8]) -> Next
+// The line at a place, once it is known where it ends.
+fn read_to(s: &[u8], at: usize, e: usize, xs: &mut [u64; 8]) -> Next
+    requires { ⌜ e ≡ endOf (now s) at ⌝ }
     ensures { λ r. ⌜ (r, now (xs .exit)) ≡ nextOf (now (s .entry)) at (now (xs .entry)) ⌝ }
 {
-    let e = line_end(s, at);
     if e < s.len() {
         let frame = parsing::parse(&s[at..e], xs);
         return Next::Line {
@@ -70,6 +75,30 @@ fn scan(s: &[u8], at: usize, xs: &mut [u64; 8]) -> Next
         };
     }
     Next::Unfinished
+}
+
+// The line at a place, by way of its newline.
+fn scan(s: &[u8], at: usize, xs: &mut [u64; 8]) -> Next
+    ensures { λ r. ⌜ (r, now (xs .exit)) ≡ nextOf (now (s .entry)) at (now (xs .entry)) ⌝ }
+{
+    let e = line_end(s, at);
+    read_to(s, at, e, xs)
+}
+
+// The line at a place, where the signs up to a newline are not all digits: they are it, or they have another newline among them.
+fn spoilt(s: &[u8], at: usize, e: usize, xs: &mut [u64; 8]) -> Next
+    requires { ⌜ allDigits (part (now s) at e) ≡ false ⌝ }
+    requires { ⌜ e < length (now s) ⌝ }
+    ensures { λ r. ⌜ (r, now (xs .exit)) ≡ nextOf (now (s .entry)) at (now (xs .entry)) ⌝ }
+{
+    let end = line_end(s, at);
+    if end == e {
+        return Next::Line {
+            frame: Frame::Refused(Status::NoHex),
+            after: e + 1,
+        };
+    }
+    read_to(s, at, end, xs)
 }
 
 // The line at a place. A call is known without looking for its newline: there is none among 132 digits.
@@ -84,13 +113,20 @@ pub fn next_line(s: &[u8], at: usize, xs: &mut [u64; 8]) -> Next
     }
     let e = at + MOST;
     if s[e] == NEWLINE {
-        let Look::Call(core) = quick(&s[at..e], xs) else {
-            return scan(s, at, xs);
-        };
-        return Next::Line {
-            frame: Frame::Call { core },
-            after: e + 1,
-        };
+        match quick(&s[at..e], xs) {
+            Look::Call(core) => {
+                return Next::Line {
+                    frame: Frame::Call { core },
+                    after: e + 1,
+                };
+            }
+            Look::NoHex => {
+                return spoilt(s, at, e, xs);
+            }
+            Look::Other => {
+                return scan(s, at, xs);
+            }
+        }
     }
     scan(s, at, xs)
 }

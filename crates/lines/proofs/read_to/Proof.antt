@@ -1,17 +1,14 @@
--- `lines::scan` meets its promise: the line ends where its newline was found, and without one there is nothing.
+-- `lines::read_to` meets its promise: the line ends where its newline is, and without one there is nothing.
 use borrow.Author.Needs.{needs}
 use Rattle.lines.specs.Lines.{next-found, next-none, end-low}
-use Rattle.lines.proofs.scan.Statement.{statement}
-use Rattle.lines.proofs.scan.Tie as tie
-
-line-end-requires : tie.Need-line-end-requires
-line-end-requires c κs = search needs
+use Rattle.lines.proofs.read_to.Statement.{statement}
+use Rattle.lines.proofs.read_to.Tie as tie
 
 sub-parse : tie.Need-sub-parse
-sub-parse c = end-low _ _ _ (c .before .line-end .ensures)
+sub-parse c = search (end-low, needs)
 
 part-parse-start : tie.Need-part-parse-start
-part-parse-start c = let h = end-low _ _ _ (c .before .line-end .ensures) in search needs
+part-parse-start c = search (end-low, needs)
 
 part-parse-end : tie.Need-part-parse-end
 part-parse-end c = search needs
@@ -28,11 +25,10 @@ returns c = search (next-found, needs)
 returns-2 : tie.Need-returns-2
 returns-2 c = search (next-none, needs)
 
-pub scan-spec : {M : Type 1} → statement M
-scan-spec =
+pub read-to-spec : {M : Type 1} → statement M
+read-to-spec =
     tie.close
     (tie.spec
-    line-end-requires
     sub-parse
     part-parse-start
     part-parse-end
