@@ -1,11 +1,11 @@
 -- How the code's branches meet the definitions of Answers, and what an answer leaves.
-use mathlib.Core.Path.{_≡_, sym, _∙_}
+use mathlib.Core.Path.{_≡_, refl, sym, _∙_}
 use mathlib.Core.Bool.{Bool}
 use mathlib.Core.List.{List, [], _∷_}
 use Prim.Native.Nat.{ℕ, _≤_, _<_}
 use native.Mathlib.Omega.{arith}
 use lib.ListN.{length, getD}
-use Rattle.rules.specs.Reasons.{minus}
+use Rattle.rules.specs.Reasons.{minus, minus-at}
 use Rattle.rules.specs.declared.Reason.{Reason}
 use Rattle.identifiers.specs.Identifier.{identifierOf, parts}
 use Rattle.identifiers.specs.declared.Identifier.{Identifier}
@@ -37,7 +37,7 @@ pub answered : (r q r′ xs : List ℕ) (c w : ℕ) (id : Identifier) (p : Parts
 answered r q r′ xs c w id p a x0 e z f g h = rw (← z, ← f, ← g, ← e) h
 
 -- ---- what an answer leaves
-written-few : (p : Parts) (a : Answer) → length (written p a) ≤ 3
+pub written-few : (p : Parts) (a : Answer) → length (written p a) ≤ 3
 written-few p Version = omega arith
 written-few p PowerVersion = omega arith
 written-few p Done = omega arith
@@ -49,6 +49,24 @@ written-few p (Leads phys attr) = omega arith
 written-few p (Count n) = omega arith
 written-few p Silent = omega arith
 written-few p (No r) = omega arith
+
+-- An answer writes one number at most, unless it tells where an address leads.
+pub written-one : (p : Parts) (a : Answer) → ((phys attr : ℕ) → a ≡ Leads phys attr → ⊥) → length (written p a) ≤ 1
+written-one p Version n = omega arith
+written-one p PowerVersion n = omega arith
+written-one p Done n = omega arith
+written-one p On n = omega arith
+written-one p Off n = omega arith
+written-one p Pending n = omega arith
+written-one p (Owns is) n = omega arith
+written-one p (Leads phys attr) n = absurd (n phys attr refl)
+written-one p (Count k) n = omega arith
+written-one p Silent n = omega arith
+written-one p (No r) n = omega arith
+
+-- No refusal is written as 0.
+pub negative-some : (p : Parts) (r : Reason) → negative p (minus r) ≡ 0 → ⊥
+negative-some p r e = let k = minus-at r in omega (arith, k .0, k .1)
 
 module _ (r : List ℕ) (core caller : ℕ) (xs : List ℕ) (a : Answer) where
   pub answered-whole : Whole r → Whole (answeredIn r core caller xs a)

@@ -1,8 +1,9 @@
 pub mod Runs
 pub mod Named
 pub mod Fit
-pub mod Owners
 pub mod Entries
+pub mod Accepted
+pub mod Owners
 pub mod Statements
 pub mod Steps
 pub mod After

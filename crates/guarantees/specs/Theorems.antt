@@ -26,7 +26,7 @@ use Rattle.calling.specs.declared.Reply.{Reply}
 use Rattle.calling.specs.declared.Reply.the-variants.{Told, Called}
 use Rattle.answering.specs.Answer.{textOf}
 use Rattle.stream.specs.Run.{answers, printed}
-use Rattle.guarantees.specs.Runs.{Event, Events, byte, next, reply, Taken, ran, replies, replies-count, Allowed, Follows, by-following, follows-is, follows-ran}
+use Rattle.guarantees.specs.Runs.{Event, Events, byte, next, Taken, ran, replies, replies-count, Allowed, Follows, by-following, follows-is, follows-ran}
 use Rattle.judgements.specs.Asked.{key}
 use Rattle.guarantees.specs.Named.{Named, by-transfer, by-set-up, as-before, LastTransfer, Unmoved}
 use Rattle.guarantees.specs.Fit.{first-fit, ran-fit}
@@ -56,9 +56,13 @@ module _ (run : Events) (m : Machine) (given : List Reply) (f : Follows first ru
         rw (ap (λ (o : Machine × Reply). o .0) step, ap (λ (o : Machine × Reply). o .1) step, follows-is f .0) (heeded (ran first run) (ran-fit run) e)
 
     -- If it is a call that passes the test on bits 23 to 16, it reaches the handler of the one accepted entry that covers it, or nobody.
-    pub any-call : (core : ℕ) → e .0 ≡ Frame.Call core → Taken answer → admitted (calledBy (e .1)) ≡ true → Dispatched run m core (e .1)
-    any-call core is t ok =
-        record { says = handler (m .ledger) (calledBy (e .1) .fast) (calledBy (e .1) .owner); one = rw (follows-is f .0) (one-entry run (calledBy (e .1) .fast) (calledBy (e .1) .owner)); judged = any-line .dispatched core is t ok }
+    pub any-call : (core : ℕ) → e .0 ≡ Frame.Call core → length (e .1) ≡ 8 → Taken answer → admitted (calledBy (e .1)) ≡ true → Dispatched run m core (e .1)
+    any-call core is l t ok =
+        record {
+          says = handler (m .ledger) (calledBy (e .1) .fast) (calledBy (e .1) .owner);
+          one = rw (follows-is f .0) (one-entry run (calledBy (e .1) .fast) (calledBy (e .1) .owner));
+          judged = any-line .call core is l t .dispatched ok;
+        }
 
 -- Two such runs over the same lines end alike, with the same answers.
 pub runs-alike : (run : Events) (m : Machine) (a b : Machine) (r q : List Reply) → Follows m run a r → Follows m run b q → (a ≡ b) × (r ≡ q)
@@ -111,7 +115,7 @@ module _ (lines : Events) (m : Machine) (told : List Reply) (set-up : Follows fi
 pub any-lines : (lines : List (List ℕ)) → let run = map reading lines in Guaranteed first run (ran first run) (replies first run)
 any-lines lines = any-run (map reading lines) _ _ (follows-ran first (map reading lines))
 
--- A line that is a call has eight numbers, as is asked of a hand-over and a finish.
+-- A line that is a call has eight numbers.
 pub eight : (line : List ℕ) (core : ℕ) → reading line .0 ≡ Frame.Call core → length (reading line .1) ≡ 8
 unfolding parsed numbers
 eight line core is = ap length (parsed-call line [] (reading line .1) (reading line .0) refl (rw is))
