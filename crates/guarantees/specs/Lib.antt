@@ -4,6 +4,7 @@ pub mod Fit
 pub mod Entries
 pub mod Accepted
 pub mod Owners
+pub mod Started
 pub mod Statements
 pub mod Steps
 pub mod After

@@ -11,7 +11,10 @@ use Rattle.ledger.specs.Ledger.{handler}
 use Rattle.ledger.specs.Only.{only}
 use Rattle.ledger.specs.OneHandler.{One, covers}
 use Rattle.ledger.specs.declared.Lookup.{Lookup}
+use Rattle.cores.specs.Power.{powerOf, off, on}
+use Rattle.cores.specs.Cores.{power, first-power-zero, first-power-other}
 use Rattle.pages.specs.Owners.{unowned-owner}
+use Rattle.judgements.specs.Names.{normal}
 use Rattle.judgements.specs.Judge.{calledBy, argsOf, found}
 use Rattle.calls.specs.Step.{sight, judgedIn}
 use Rattle.hex.specs.Hex.{numbers}
@@ -31,7 +34,9 @@ use Rattle.judgements.specs.Asked.{key}
 use Rattle.guarantees.specs.Named.{Named, by-transfer, by-set-up, as-before, LastTransfer, Unmoved}
 use Rattle.guarantees.specs.Fit.{first-fit, ran-fit}
 use Rattle.guarantees.specs.Entries.{entries, one-entry}
-use Rattle.guarantees.specs.Statements.{Guaranteed, Heeded, ownerIn, texts, Shape, status, call}
+use Rattle.guarantees.specs.Statements.{Guaranteed, Heeded, ownerIn, number, texts, Shape, status, call}
+use Rattle.parsing.specs.declared.Status.the-variants.{Accepted}
+use Rattle.guarantees.specs.Started.{LastStart, pending-started}
 use Rattle.guarantees.specs.Steps.{heeded}
 use Rattle.guarantees.specs.After.{guaranteed-after}
 
@@ -64,13 +69,25 @@ module _ (run : Events) (m : Machine) (given : List Reply) (f : Follows first ru
           judged = any-line .call core is l t .dispatched ok;
         }
 
+    -- A core that arrives finds what its last granted start gave: the address in ninth place, and the context in x0.
+    pub any-arrival : (core : ℕ) → e .0 ≡ Frame.Arrival core → answer ≡ Told Accepted → LastStart first run core (number last core normal 8) (number last core normal 0)
+    any-arrival core is told =
+        let a = any-line .arrival core is told in
+        rw (a .start, a .context, follows-is f .0) (pending-started core run (rw (follows-is f .0) at (a .was-pending)))
+
 -- Two such runs over the same lines end alike, with the same answers.
 pub runs-alike : (run : Events) (m : Machine) (a b : Machine) (r q : List Reply) → Follows m run a r → Follows m run b q → (a ≡ b) × (r ≡ q)
 runs-alike run m a b r q f g = let h = follows-is f in let k = follows-is g in (h .0 ∙ sym (k .0), h .1 ∙ sym (k .1))
 
--- Before the first line every page is Root's.
+-- Before the first line every page is Root's, core 0 is ON and the others are OFF.
 pub root-first : (page : ℕ) → ownerIn first page ≡ 0
 root-first page = unowned-owner page
+
+pub zero-first : power (first .powers) 0 ≡ powerOf on 0 0
+zero-first = first-power-zero
+
+pub others-first : (core : ℕ) → (core ≡ 0 → ⊥) → power (first .powers) core ≡ powerOf off 0 0
+others-first = first-power-other
 
 -- ---- from any accepted set-up on
 -- a call on a core with its eight numbers, or the arrival of a core; whether it is accepted or refused
