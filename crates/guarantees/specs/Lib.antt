@@ -8,5 +8,6 @@ pub mod Started
 pub mod Statements
 pub mod Steps
 pub mod After
+pub mod Printed
 pub mod Theorems
 pub mod Cases

@@ -63,7 +63,7 @@ pub record LastStart (m : Machine) (run : Events) (target start context : ℕ) :
 
 -- ---- one line
 -- a deed's kind
-abbrev kind : Deed → ℕ
+abbrev pub kind : Deed → ℕ
 kind Nothing = 0
 kind (Move first count to) = 1
 kind (Map m) = 2
@@ -74,7 +74,7 @@ kind (HandOver to) = 6
 kind Finish = 7
 
 -- a start, OFF, or neither
-power-cases : {P : Type 0} (d : Deed) → ((k a x : ℕ) → d ≡ Start k a x → P) → (d ≡ GoOff → P) → (((k a x : ℕ) → d ≡ Start k a x → ⊥) → (d ≡ GoOff → ⊥) → P) → P
+pub power-cases : {P : Type 0} (d : Deed) → ((k a x : ℕ) → d ≡ Start k a x → P) → (d ≡ GoOff → P) → (((k a x : ℕ) → d ≡ Start k a x → ⊥) → (d ≡ GoOff → ⊥) → P) → P
 power-cases Nothing s o n = n (λ k a x e. omega (arith, ap kind e)) (λ e. omega (arith, ap kind e))
 power-cases (Move first count to) s o n = n (λ k a x e. omega (arith, ap kind e)) (λ e. omega (arith, ap kind e))
 power-cases (Map m) s o n = n (λ k a x e. omega (arith, ap kind e)) (λ e. omega (arith, ap kind e))
@@ -97,7 +97,7 @@ data Became (m : Machine) (e : Event) (target : ℕ) (o : Machine) : Type 0 wher
   kept : ((start context : ℕ) → Starts m e target start context → ⊥) → power (o .powers) target ≡ power (m .powers) target → Became m e target o
   gone : isPending (power (o .powers) target) ≡ false → Became m e target o
 
-same-or-other : {P : Type 0} (c core : ℕ) → (c ≡ core → P) → ((c ≡ core → ⊥) → P) → P
+pub same-or-other : {P : Type 0} (c core : ℕ) → (c ≡ core → P) → ((c ≡ core → ⊥) → P) → P
 same-or-other c core y n = either (eqb c core) (λ e. y (eqb-true c core e)) (λ e. n (eqb-false c core e))
 
 module _ (m : Machine) (fit : Fit m) (e : Event) (target : ℕ) where

@@ -12,7 +12,7 @@ use Rattle.identifiers.specs.Identifier.{bits, admitted, argument}
 use Rattle.registers.specs.Registers.{saved, saving}
 use Rattle.registers.specs.declared.Shown.{Shown}
 use Rattle.cores.specs.Power.{powerOf, put, off, pending, on, isOn, isPending}
-use Rattle.cores.specs.Cores.{power, turn}
+use Rattle.cores.specs.Cores.{power, turn, onCount}
 use Rattle.pages.specs.Window.{runOf}
 use Rattle.pages.specs.Owners.{owner, countOwned}
 use Rattle.pages.specs.declared.Window.{Window}
@@ -195,6 +195,8 @@ module _ (m : Machine) (core : ℕ) (xs : List ℕ) where
       pub not-written : (j : ℕ) → 0 < j → j < 8 → (Is 1 0xC2000022 → x 0 ≡ 0 → j ≤ 2 → ⊥) → x j ≡ getD xs j 0
       -- These are where its address leads, by the caller's list.
       pub where-told : Is 1 0xC2000022 → x 0 ≡ 0 → leadOf (mapped m caller) (arg 1) ≡ To (x 1) (x 2)
+      -- C2000030 is answered with the number of cores that are ON.
+      pub count-told : Is 1 0xC2000030 → x 0 ≡ onCount (m .powers)
       -- ---- what others find
       -- No number of another core changes.
       pub other-cores : (c w j : ℕ) → (core ≡ c → ⊥) → number last c w j ≡ number m c w j

@@ -21,7 +21,7 @@ use Rattle.mapping.specs.Sound.{granted-formed}
 use Rattle.judgements.specs.Names.{normal}
 use Rattle.judgements.specs.Judge.{calledBy, argsOf, wanted}
 use Rattle.judgements.specs.Asked.{Finishes, by-secure, by-realm, called-for, leads-asked, judged-reserved}
-use Rattle.judgements.specs.Decided.{asked-map, asked-unmap, asked-start, asked-off, asked-hand-over, asked-finish, asked-where}
+use Rattle.judgements.specs.Decided.{asked-map, asked-unmap, asked-start, asked-off, asked-hand-over, asked-finish, asked-where, asked-count}
 use Rattle.judgements.specs.Grounds.{grounded}
 use Rattle.judgements.specs.declared.Answer.the-variants.{No}
 use Rattle.judgements.specs.declared.Deed.{Deed}
@@ -94,18 +94,18 @@ module _ (m : Machine) (fit : Fit m) (e : Event) (core : ℕ) (is : e .0 ≡ Fra
   deed = deedIn s core xs
 
   -- ---- what is done, and what was asked for
-  hands : (to : ℕ) → HandsOver m core xs to → deed ≡ HandOver to
+  pub hands : (to : ℕ) → HandsOver m core xs to → deed ≡ HandOver to
   hands to a = asked-hand-over (sight s core) xs (may m fit e core is t) to (a .0) (a .1)
 
-  hands-asked : (to : ℕ) → deed ≡ HandOver to → HandsOver m core xs to
+  pub hands-asked : (to : ℕ) → deed ≡ HandOver to → HandsOver m core xs to
   hands-asked to d =
       let r = called-for (sight s core) xs (HandOver to) (λ k. let z : _≡_ {A = ℕ} 0 1 = cc in omega arith) d in
       (Effects.hands s core xs to d .0, record { passes = r .passes; number = r .number; reached = r .reached; so = r .so .0 })
 
-  gives-back : GivesBack m core xs → deed ≡ Finish
+  pub gives-back : GivesBack m core xs → deed ≡ Finish
   gives-back a = asked-finish (sight s core) xs (may m fit e core is t) (right m fit e core is t .running core (inside m fit e core is t) .away (finisher (a .so)) .0) a
 
-  gives-back-asked : deed ≡ Finish → GivesBack m core xs
+  pub gives-back-asked : deed ≡ Finish → GivesBack m core xs
   gives-back-asked d =
       let r = called-for (sight s core) xs Finish (λ k. let z : _≡_ {A = ℕ} 0 1 = cc in omega arith) d in
       record { passes = r .passes; number = r .number; reached = r .reached; so = r .so .0 }
@@ -179,6 +179,9 @@ module _ (m : Machine) (fit : Fit m) (e : Event) (core : ℕ) (is : e .0 ≡ Fra
             (λ y. Left.rest-frame s core xs whole i c l j h low (λ phys attr a.
             n (leads-asked (sight s core) xs phys attr a) (rw numbers (Left.leads-zero s core xs whole i c phys attr a)) (omega (arith, leb-false 3 j y)))));
         where-told = λ a z. Left.zero-leads s core xs whole i c _ (asked-where (sight s core) xs a) (rw numbers at z) ∙ rw numbers;
+        count-told = λ a.
+            let b = asked-count (sight s core) xs (may m fit e core is t) a in
+            rw numbers (Effects.own-results s core xs 0 whole i c (rw b (omega arith)) ∙ rw b);
         other-cores = λ c w j n. spares c w j (λ k. absurd (n k)) (λ k. absurd (n k));
         other-worlds = λ w j n h f. spares core w j (λ k. n) (λ k. received deed w (λ to d. h to (hands-asked to d)) (λ d. f (gives-back-asked d)));
         same-runs = λ h f. turns-are m fit e core is t ∙ Left.turns-spared s core xs (λ to d. h to (hands-asked to d)) (λ d. f (gives-back-asked d));
@@ -278,7 +281,7 @@ arrival-heeded m fit e core is told =
 
 module _ (m : Machine) (e : Event) where
   -- a line that is no call is answered by a status
-  status-only : ((core : ℕ) → e .0 ≡ Frame.Call core → ⊥) → Taken (reply m e) → ⊥
+  pub status-only : ((core : ℕ) → e .0 ≡ Frame.Call core → ⊥) → Taken (reply m e) → ⊥
   status-only n t =
       framed-by m (e .1) (λ (g : Frame) (o : Machine × Reply). e .0 ≡ g → framed m (e .0) (e .1) ≡ o → ⊥)
       (λ why k h. t why (ap (λ (o : Machine × Reply). o .1) h)) (λ g why d k h. t why (ap (λ (o : Machine × Reply). o .1) h))

@@ -11,14 +11,13 @@ use Rattle.ledger.specs.Ledger.{handler}
 use Rattle.ledger.specs.Only.{only}
 use Rattle.ledger.specs.OneHandler.{One, covers}
 use Rattle.ledger.specs.declared.Lookup.{Lookup}
+use Rattle.registers.specs.Registers.{saved-zeros}
 use Rattle.cores.specs.Power.{powerOf, off, on}
 use Rattle.cores.specs.Cores.{power, first-power-zero, first-power-other}
 use Rattle.pages.specs.Owners.{unowned-owner}
 use Rattle.judgements.specs.Names.{normal}
 use Rattle.judgements.specs.Judge.{calledBy, argsOf, found}
 use Rattle.calls.specs.Step.{sight, judgedIn}
-use Rattle.hex.specs.Hex.{numbers}
-use Rattle.parsing.specs.Frame.{parsed, parsed-call}
 use Rattle.lines.specs.Lines.{linesOf}
 use Rattle.lines.specs.Input.{reading, readings}
 use Rattle.parsing.specs.declared.Frame.{Frame}
@@ -39,6 +38,7 @@ use Rattle.parsing.specs.declared.Status.the-variants.{Accepted}
 use Rattle.guarantees.specs.Started.{LastStart, pending-started}
 use Rattle.guarantees.specs.Steps.{heeded}
 use Rattle.guarantees.specs.After.{guaranteed-after}
+use Rattle.guarantees.specs.Printed.{Small, AllFit, line-small, fits-first}
 
 -- what the ledger says of a call, by the entries that a run has accepted
 pub record Dispatched (run : Events) (m : Machine) (core : ℕ) (xs : List ℕ) : Type 0 where
@@ -79,9 +79,12 @@ module _ (run : Events) (m : Machine) (given : List Reply) (f : Follows first ru
 pub runs-alike : (run : Events) (m : Machine) (a b : Machine) (r q : List Reply) → Follows m run a r → Follows m run b q → (a ≡ b) × (r ≡ q)
 runs-alike run m a b r q f g = let h = follows-is f in let k = follows-is g in (h .0 ∙ sym (k .0), h .1 ∙ sym (k .1))
 
--- Before the first line every page is Root's, core 0 is ON and the others are OFF.
+-- Before the first line every page is Root's, every saved number is 0, core 0 is ON and the others are OFF.
 pub root-first : (page : ℕ) → ownerIn first page ≡ 0
 root-first page = unowned-owner page
+
+pub zeros-first : (core world j : ℕ) → number first core world j ≡ 0
+zeros-first = saved-zeros
 
 pub zero-first : power (first .powers) 0 ≡ powerOf on 0 0
 zero-first = first-power-zero
@@ -132,11 +135,6 @@ module _ (lines : Events) (m : Machine) (told : List Reply) (set-up : Follows fi
 pub any-lines : (lines : List (List ℕ)) → let run = map reading lines in Guaranteed first run (ran first run) (replies first run)
 any-lines lines = any-run (map reading lines) _ _ (follows-ran first (map reading lines))
 
--- A line that is a call has eight numbers.
-pub eight : (line : List ℕ) (core : ℕ) → reading line .0 ≡ Frame.Call core → length (reading line .1) ≡ 8
-unfolding parsed numbers
-eight line core is = ap length (parsed-call line [] (reading line .1) (reading line .0) refl (rw is))
-
 said : (run : Events) (m : Machine) → answers m run ≡ texts (replies m run)
 unfolding answers replies texts
 said [] m = refl
@@ -146,6 +144,14 @@ said (e ∷ rest) m = rw (said rest (next m e))
 pub printed-answers : (m : Machine) (input : List ℕ) → (printed m input ≡ texts (replies m (readings input))) × (length (replies m (readings input)) ≡ length (linesOf input))
 unfolding printed readings
 printed-answers m input = (said (readings input) m, replies-count m (readings input) ∙ length-map (linesOf input) reading)
+
+-- The numbers of a line are below 2^64, and those of a call are eight.
+pub read-small : (line : List ℕ) → Small (reading line)
+read-small = line-small
+
+-- Nothing is cut: whatever the lines, every core and world that is shown is below 256, and every number below 2^64.
+pub nothing-cut : (lines : List (List ℕ)) → AllFit (replies first (map reading lines))
+nothing-cut = fits-first
 
 -- Each answer has one of two shapes: a status, or what a call shows.
 pub answer-shape : (r : Reply) → Shape (textOf r)

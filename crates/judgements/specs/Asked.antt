@@ -30,7 +30,7 @@ use Rattle.transfers.specs.Transfer.{moveVerdict, severalVerdict}
 use Rattle.transfers.specs.Granted.{move-granted, several-granted}
 use Rattle.transfers.specs.declared.Verdict.{Verdict as Moving}
 use Rattle.transfers.specs.declared.Verdict.the-variants as Moving
-use Rattle.judgements.specs.Names.{secure, normal, realm, coreOff, coreStart, coreStartWide, granuleToRealm, granuleToNormal, realmFirst, realmLast, realmFinish, takePages, givePages, mapPages, unmapPages, whereLeads, secureFinish}
+use Rattle.judgements.specs.Names.{secure, normal, realm, coreOff, coreStart, coreStartWide, granuleToRealm, granuleToNormal, realmFirst, realmLast, realmFinish, takePages, givePages, mapPages, unmapPages, whereLeads, countOn, secureFinish}
 use Rattle.judgements.specs.Judge.{HandlerSight, Sight, denied, granted, tested, oneOf, callers, wanted, calledBy, argsOf, affirmed, featuring, architecture, starting, stateOf, tellingState, goingOff, versioning, powerFeaturing, moving, granuleIn, granuleOut, taking, giving, owning, mapping, unmapping, leading, board, handing, finishing, handingToRealm, realmCall, standard, trusted, byHandler, found, judgedBy, judged}
 use Rattle.judgements.specs.declared.Answer.{Answer}
 use Rattle.judgements.specs.declared.Answer.the-variants as Answer
@@ -64,7 +64,7 @@ pub data Finishes : ℕ → ℕ → ℕ → Type 0 where
   by-secure : Finishes 3 secureFinish secure
   by-realm : Finishes 2 realmFinish realm
 
--- an answer for which nothing is done: where an address leads is told to the call that asks for it alone
+-- an answer for which nothing is done: where an address leads, and how many cores are ON, is told to the call that asks for it alone
 abbrev pub Tells : ℕ → ℕ → Answer → Type 0
 Tells h key Answer.Version = Unit {0}
 Tells h key Answer.PowerVersion = Unit {0}
@@ -74,7 +74,7 @@ Tells h key Answer.Off = Unit {0}
 Tells h key Answer.Pending = Unit {0}
 Tells h key (Answer.Owns is) = Unit {0}
 Tells h key (Answer.Leads phys attr) = (h ≡ 1) × (key ≡ whereLeads)
-Tells h key (Answer.Count n) = Unit {0}
+Tells h key (Answer.Count n) = (h ≡ 1) × (key ≡ countOn)
 Tells h key Answer.Silent = Unit {0}
 Tells h key (Answer.No r) = Unit {0}
 
@@ -161,7 +161,7 @@ module _ (s : HandlerSight) (a : Args) (h key : ℕ) where
         (λ e. chosen For _ _ _ (λ e. mappings _ (eqb-true key mapPages e))
         (λ e. chosen For _ _ _ (λ e. testing _ _ (λ c. ((is, eqb-true key unmapPages e), ((refl, refl), refl))))
         (λ e. chosen For _ _ _ (λ e. leads _ (eqb-true key whereLeads e))
-        (λ e. chosen For _ _ _ (λ e. tt)
+        (λ e. chosen For _ _ _ (λ e. (is, eqb-true key countOn e))
         (λ e. tt)))))))
 
   module _ (is : h ≡ 2) where
@@ -243,31 +243,39 @@ module _ (s : Sight) (xs : List ℕ) where
       (λ r e. absurd (n (sym e)))
       (λ h ok l e. record { passes = ok; number = h; reached = l; so = rw e at (handlers (s .inner) (argsOf (calledBy xs) xs) h (key xs)) })
 
-  -- Where an address leads is told to the call alone that asks for it.
+  -- Nothing is told but what it asks for.
+  told-asked : (r : Answer) → (r ≡ Answer.Done → ⊥) → (r ≡ Answer.Silent → ⊥) → ((q : Reason) → r ≡ Answer.No q → ⊥) → judged s xs .answer ≡ r → Reached s xs (λ h. Tells h (key xs) r)
+  told-asked r d n f =
+      judged-by (λ (j : Judged). j .answer ≡ r → Reached s xs (λ h. Tells h (key xs) r))
+      (λ q e. absurd (f q (sym e)))
+      (λ h ok l e. record {
+        passes = ok;
+        number = h;
+        reached = l;
+        so = told h (byHandler (s .inner) (argsOf (calledBy xs) xs) (key xs) h .deed) (rw e at (handlers (s .inner) (argsOf (calledBy xs) xs) h (key xs)));
+      })
+    where
+      told : (h : ℕ) (deed : Deed) → CalledFor (s .inner .caller) (argsOf (calledBy xs) xs) h (key xs) deed r → Tells h (key xs) r
+      told h Nothing c = c
+      told h (Move first count to) c = absurd (d (c .1))
+      told h (Map m) c = absurd (d (c .1 .1))
+      told h (Unmap virt size) c = absurd (d (c .1 .1))
+      told h (Start core start context) c = absurd (d (c .1 .1))
+      told h GoOff c = absurd (n (c .1))
+      told h (HandOver to) c = absurd (n (c .1))
+      told h Finish c = absurd (n (c .1))
+
+  -- Where an address leads is told to the call alone that asks for it,
   pub leads-asked : (phys attr : ℕ) → judged s xs .answer ≡ Answer.Leads phys attr → Reached s xs (λ h. (h ≡ 1) × (key xs ≡ whereLeads))
   leads-asked phys attr =
-      judged-by (λ (j : Judged). j .answer ≡ Answer.Leads phys attr → Reached s xs (λ h. (h ≡ 1) × (key xs ≡ whereLeads)))
-      (λ r e. let z : _≡_ {A = ℕ} 0 1 = cc in absurd (omega arith))
-      (λ h ok l e. record { passes = ok; number = h; reached = l; so = told h (byHandler (s .inner) (argsOf (calledBy xs) xs) (key xs) h .deed) (rw e at (handlers (s .inner) (argsOf (calledBy xs) xs) h (key xs))) })
-    where
-      other : {P : Type 0} {r : Answer} → Answer.Leads phys attr ≡ r → (r ≡ Answer.Leads phys attr → ⊥) → P
-      other e n = absurd (n (sym e))
+      told-asked (Answer.Leads phys attr) (λ e. let z : _≡_ {A = ℕ} 0 1 = cc in omega arith) (λ e. let z : _≡_ {A = ℕ} 0 1 = cc in omega arith)
+      (λ q e. let z : _≡_ {A = ℕ} 0 1 = cc in omega arith)
 
-      not-done : Answer.Done ≡ Answer.Leads phys attr → ⊥
-      not-done e = let z : _≡_ {A = ℕ} 0 1 = cc in omega arith
-
-      not-silent : Answer.Silent ≡ Answer.Leads phys attr → ⊥
-      not-silent e = let z : _≡_ {A = ℕ} 0 1 = cc in omega arith
-
-      told : (h : ℕ) (d : Deed) → CalledFor (s .inner .caller) (argsOf (calledBy xs) xs) h (key xs) d (Answer.Leads phys attr) → (h ≡ 1) × (key xs ≡ whereLeads)
-      told h Nothing c = c
-      told h (Move first count to) c = other (c .1) not-done
-      told h (Map m) c = other (c .1 .1) not-done
-      told h (Unmap virt size) c = other (c .1 .1) not-done
-      told h (Start core start context) c = other (c .1 .1) not-done
-      told h GoOff c = other (c .1) not-silent
-      told h (HandOver to) c = other (c .1) not-silent
-      told h Finish c = other (c .1) not-silent
+  -- and so is a number of cores.
+  pub count-asked : (n : ℕ) → judged s xs .answer ≡ Answer.Count n → Reached s xs (λ h. (h ≡ 1) × (key xs ≡ countOn))
+  count-asked n =
+      told-asked (Answer.Count n) (λ e. let z : _≡_ {A = ℕ} 0 1 = cc in omega arith) (λ e. let z : _≡_ {A = ℕ} 0 1 = cc in omega arith)
+      (λ q e. let z : _≡_ {A = ℕ} 0 1 = cc in omega arith)
 
 -- A call from a world that may call, whose bits 23 to 16 pass the test, is judged by the handler of its type and owner, and refused where there is none.
 pub judged-found : (s : Sight) (xs : List ℕ) → oneOf (s .inner .caller .world) callers ≡ true → admitted (calledBy xs) ≡ true

@@ -11,6 +11,7 @@ use Rattle.rules.specs.Tests.{Test, sieve, sieved}
 use Rattle.rules.specs.declared.Reason.{Reason}
 use Rattle.rules.specs.declared.Reason.the-variants as Reason
 use Rattle.ledger.specs.declared.Lookup.the-variants.{Handler}
+use Rattle.cores.specs.Cores.{onCount}
 use Rattle.pages.specs.Window.{runOf}
 use Rattle.pages.specs.declared.Window.{Window}
 use Rattle.pages.specs.declared.Place.the-variants.{Page}
@@ -22,7 +23,7 @@ use Rattle.mapping.specs.declared.Lead.{Lead}
 use Rattle.mapping.specs.declared.Lead.the-variants as Lead
 use Rattle.transfers.specs.declared.Verdict.{Verdict as Moving}
 use Rattle.transfers.specs.declared.Verdict.the-variants as Moving
-use Rattle.judgements.specs.Names.{normal, powerVersion, coreOff, coreStart, coreStartWide, coreState, coreStateWide, powerFeatures, granuleToRealm, granuleToNormal, realmFirst, realmLast, realmFinish, mapPages, unmapPages, whereLeads, secureFinish}
+use Rattle.judgements.specs.Names.{normal, powerVersion, coreOff, coreStart, coreStartWide, coreState, coreStateWide, powerFeatures, granuleToRealm, granuleToNormal, realmFirst, realmLast, realmFinish, mapPages, unmapPages, whereLeads, countOn, secureFinish}
 use Rattle.judgements.specs.Judge.{HandlerSight, Sight, denied, tested, oneOf, callers, wanted, calledBy, argsOf, starting, goingOff, moving, granuleIn, granuleOut, taking, giving, mapping, unmapping, leading, board, handing, finishing, handingToRealm, realmCall, standard, trusted, byHandler, found, judged}
 use Rattle.judgements.specs.declared.Answer.{Answer}
 use Rattle.judgements.specs.declared.Answer.the-variants as Answer
@@ -105,6 +106,10 @@ module _ (s : HandlerSight) (a : Args) where
   unfolding byHandler board pick
   where-tells h k is = rw (is .0, is .1) (leading-tells (leadOf (s .own) (a .x1)))
 
+  count-told : (h k : ℕ) → (h ≡ 1) × (k ≡ countOn) → byHandler s a k h .answer ≡ Answer.Count (onCount (s .powers))
+  unfolding byHandler board pick
+  count-told h k is = rw (is .0, is .1)
+
   -- ---- core power
   start-decided : (h k : ℕ) → (h ≡ 2) × ((k ≡ coreStart) ⊎ (k ≡ coreStartWide)) → Decided Answer.Done (λ (d : Deed). d ≡ Start (a .x1) (a .x2) (a .x3)) (byHandler s a k h)
   unfolding byHandler standard starting pick
@@ -174,6 +179,10 @@ module _ (s : Sight) (xs : List ℕ) where
     found-at : {P : ℕ → Type 0} (r : Reached s xs P) → judged s xs ≡ byHandler (s .inner) args (key xs) (r .number)
     unfolding found
     found-at r = judged-found s xs may (r .passes) ∙ rw (r .reached)
+
+    -- How many cores are ON is told to whoever asks.
+    pub asked-count : Reached s xs (λ h. (h ≡ 1) × (key xs ≡ countOn)) → judged s xs .answer ≡ Answer.Count (onCount (s .inner .powers))
+    asked-count r = ap (λ (j : Judged). j .answer) (found-at r) ∙ count-told (s .inner) args (r .number) (key xs) (r .so)
 
     -- What Normal asks for of a core is done: that it goes OFF,
     pub asked-off : s .inner .caller .world ≡ normal → Reached s xs (λ h. (h ≡ 2) × (key xs ≡ coreOff)) → judged s xs .deed ≡ GoOff
