@@ -1,13 +1,15 @@
 -- Nothing is cut where it is printed: in a run over lines every number that an answer shows has at most sixteen digits, and its core and world at most two.
 use mathlib.Core.Path.{_≡_, refl, sym, ap, _∙_}
 use mathlib.Core.Bool.{true}
-use mathlib.Core.List.{List, [], _∷_, map}
+use mathlib.Core.List.{List, [], _∷_, _++_, map}
 use mathlib.Core.Logic.{⊎-elim}
 use mathlib.Core.Option.{Option, none, some}
-use Prim.Native.Nat.{ℕ, zero, suc, _+_, _-_, _*_, _%_, _^_, _<_}
+use Prim.Native.Nat.{ℕ, zero, suc, _+_, _-_, _*_, _/_, _%_, _^_, _≤_, _<_}
 use native.Mathlib.Omega.{arith}
+use native.Mathlib.Nat.{pow-suc}
 use lib.Dec.{ltb}
-use lib.ListN.{length, getD}
+use lib.ListN.{length, getD, List·getD-append}
+use lib.Seq.{getD-append-seam}
 use borrow.Author.Tests.{ltb-true, ltb-false}
 use Rattle.rules.specs.Choice.{chosen, either}
 use Rattle.identifiers.specs.Identifier.{argument}
@@ -34,9 +36,9 @@ use Rattle.answers.specs.Laws.{written-fits}
 use Rattle.calls.specs.Step.{sight, callerOf, judgedIn}
 use Rattle.calls.specs.Effects.{deedIn, answerIn, resultsIn, returned}
 use Rattle.calls.specs.Left.{power-started, power-off, power-spared}
-use Rattle.hex.specs.Hex.{numbers}
+use Rattle.hex.specs.Hex.{signOf, valueOf, value, numbers, inHex, sign-low, sign-high, digit-low, digit-high, length-hex}
 use Rattle.hex.specs.Read.{value-small}
-use Rattle.parsing.specs.Frame.{statusByte, parsed, parsed-call}
+use Rattle.parsing.specs.Frame.{statusByte, frameOf, kind as parsing-kind, sized, parsed, parsed-call}
 use Rattle.lines.specs.Input.{reading}
 use Rattle.parsing.specs.declared.Status.{Status}
 use Rattle.parsing.specs.declared.Status.the-variants.{Accepted, NoHex, Unknown, Misplaced, OutOfRange, Clash}
@@ -63,11 +65,38 @@ unfoldable pub AllFit : List Reply → Type 0
 AllFit [] = Unit {0}
 AllFit (r ∷ rest) = Fits r × AllFit rest
 
+-- ---- the digits of a number
+sign-value : (d : ℕ) → d < 16 → valueOf (signOf d) ≡ d
+sign-value d h =
+    either (ltb d 10)
+    (λ y. let k : d < 10 = ltb-true d 10 y in rw (← sign-low d k, digit-low (48 + d) (omega arith) (omega arith)) (omega arith))
+    (λ n. let k : 10 ≤ d = ltb-false d 10 n in rw (← sign-high d k, digit-high (87 + d) (omega arith) (omega arith)) (omega arith))
+
+-- what stands behind the signs of a number is none of it
+value-front : (a b : List ℕ) (n : ℕ) → n ≤ length a → value (a ++ b) 0 n ≡ value a 0 n
+unfolding value
+value-front a b zero h = refl
+value-front a b (suc n) h = rw (value-front a b n (omega arith), List·getD-append a b 0 (0 + n) (omega arith))
+
+-- A number below 16^n is what its n digits stand for.
+pub digits-value : (n x : ℕ) → x < 16 ^ n → value (inHex n x) 0 n ≡ x
+unfolding value inHex
+digits-value zero x h = omega arith
+digits-value (suc n) x h =
+    let front = inHex n (x / 16) in
+    let sign = signOf (x % 16) in
+    let size : length front ≡ n = length-hex n (x / 16) in
+    let small : x < 16 ^ n * 16 = rw pow-suc at h in
+    let last : 0 + n ≡ length front = omega arith in
+    let ends : getD (front ++ sign ∷ []) (0 + n) 0 ≡ sign = rw last (getD-append-seam front sign [] 0) in
+    rw (value-front front (sign ∷ []) n (omega arith), ends, sign-value (x % 16) (omega arith), digits-value n (x / 16) (omega arith)) (omega arith)
+
 -- ---- what is read
--- the numbers of a line are below 2^64, and those of a call are eight
+-- the numbers of a line are below 2^64, those of a call are eight, and its core is below 256
 pub record Small (e : Event) : Type 0 where
   pub numbers : (j : ℕ) → getD (e .1) j 0 < 2 ^ 64
   pub eight : (core : ℕ) → e .0 ≡ Frame.Call core → length (e .1) ≡ 8
+  pub core : (core : ℕ) → e .0 ≡ Frame.Call core → core < 256
 
 numbers-small : (l : List ℕ) (n k j : ℕ) → getD (numbers l k n) j 0 < 2 ^ 64
 unfolding numbers
@@ -84,8 +113,32 @@ eight : (line : List ℕ) (core : ℕ) → reading line .0 ≡ Frame.Call core �
 unfolding parsed numbers
 eight line core is = ap length (parsed-call line [] (reading line .1) (reading line .0) refl (rw is))
 
+-- and a core of one byte
+abbrev CoreFits : Frame → Type 0
+CoreFits (Frame.Site base pages cores) = Unit {0}
+CoreFits (Frame.Entry lowest last type number) = Unit {0}
+CoreFits (Frame.Name lowest count to) = Unit {0}
+CoreFits (Frame.Call core) = core < 256
+CoreFits (Frame.Arrival core) = core < 256
+CoreFits (Frame.Refused why) = Unit {0}
+
+core-fits : (l : List ℕ) → CoreFits (frameOf l)
+unfolding frameOf parsing-kind sized
+core-fits l =
+    chosen CoreFits _ _ _ (λ e. tt)
+    (λ e. chosen CoreFits _ _ _ (λ e. chosen CoreFits _ _ _ (λ e. tt) (λ e. tt))
+    (λ e. chosen CoreFits _ _ _ (λ e. chosen CoreFits _ _ _ (λ e. tt) (λ e. tt))
+    (λ e. chosen CoreFits _ _ _ (λ e. chosen CoreFits _ _ _ (λ e. tt) (λ e. tt))
+    (λ e. chosen CoreFits _ _ _ (λ e. chosen CoreFits _ _ _ (λ e. value-small l 2 2) (λ e. tt))
+    (λ e. chosen CoreFits _ _ _ (λ e. chosen CoreFits _ _ _ (λ e. value-small l 2 2) (λ e. tt))
+    (λ e. tt))))))
+
+line-core : (line : List ℕ) (core : ℕ) → reading line .0 ≡ Frame.Call core → core < 256
+unfolding parsed
+line-core line core is = rw is at (core-fits line)
+
 pub line-small : (line : List ℕ) → Small (reading line)
-line-small l = record { numbers = line-numbers l; eight = eight l }
+line-small l = record { numbers = line-numbers l; eight = eight l; core = line-core l }
 
 -- ---- what is saved
 -- every saved number, and every start address and context, is below 2^64

@@ -3,7 +3,7 @@ use mathlib.Core.Path.{_≡_, refl, sym, ap, _∙_}
 use mathlib.Core.Bool.{true}
 use mathlib.Core.List.{List, [], _∷_, _++_, map}
 use mathlib.Core.Logic.{_⊎_, inl, inr}
-use Prim.Native.Nat.{ℕ}
+use Prim.Native.Nat.{ℕ, _^_, _<_}
 use native.Mathlib.Omega.{arith}
 use lib.ListN.{length, length-map}
 use Rattle.identifiers.specs.Identifier.{admitted}
@@ -18,6 +18,7 @@ use Rattle.pages.specs.Owners.{unowned-owner}
 use Rattle.judgements.specs.Names.{normal}
 use Rattle.judgements.specs.Judge.{calledBy, argsOf, found}
 use Rattle.calls.specs.Step.{sight, judgedIn}
+use Rattle.hex.specs.Hex.{value, inHex}
 use Rattle.lines.specs.Lines.{linesOf}
 use Rattle.lines.specs.Input.{reading, readings}
 use Rattle.parsing.specs.declared.Frame.{Frame}
@@ -38,7 +39,7 @@ use Rattle.parsing.specs.declared.Status.the-variants.{Accepted}
 use Rattle.guarantees.specs.Started.{LastStart, pending-started}
 use Rattle.guarantees.specs.Steps.{heeded}
 use Rattle.guarantees.specs.After.{guaranteed-after}
-use Rattle.guarantees.specs.Printed.{Small, AllFit, line-small, fits-first}
+use Rattle.guarantees.specs.Printed.{Small, AllFit, line-small, fits-first, digits-value}
 
 -- what the ledger says of a call, by the entries that a run has accepted
 pub record Dispatched (run : Events) (m : Machine) (core : ℕ) (xs : List ℕ) : Type 0 where
@@ -145,13 +146,17 @@ pub printed-answers : (m : Machine) (input : List ℕ) → (printed m input ≡ 
 unfolding printed readings
 printed-answers m input = (said (readings input) m, replies-count m (readings input) ∙ length-map (linesOf input) reading)
 
--- The numbers of a line are below 2^64, and those of a call are eight.
+-- The numbers of a line are below 2^64, those of a call are eight, and its core is below 256.
 pub read-small : (line : List ℕ) → Small (reading line)
 read-small = line-small
 
 -- Nothing is cut: whatever the lines, every core and world that is shown is below 256, and every number below 2^64.
 pub nothing-cut : (lines : List (List ℕ)) → AllFit (replies first (map reading lines))
 nothing-cut = fits-first
+
+-- So each is what its digits stand for: a number below 16^n is shown whole in n of them.
+pub shown-whole : (n x : ℕ) → x < 16 ^ n → value (inHex n x) 0 n ≡ x
+shown-whole = digits-value
 
 -- Each answer has one of two shapes: a status, or what a call shows.
 pub answer-shape : (r : Reply) → Shape (textOf r)
