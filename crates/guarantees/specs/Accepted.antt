@@ -8,12 +8,16 @@ use native.Mathlib.Omega.{arith}
 use Rattle.registers.specs.Registers.{saved}
 use Rattle.cores.specs.Power.{isOn}
 use Rattle.cores.specs.Cores.{power}
+use Rattle.pages.specs.Window.{runOf}
+use Rattle.pages.specs.declared.Place.the-variants.{Page}
 use Rattle.judgements.specs.Names.{secure, normal, realm}
-use Rattle.judgements.specs.Judge.{oneOf, callers}
+use Rattle.judgements.specs.Judge.{Sight, oneOf, callers}
+use Rattle.judgements.specs.Asked.{Reached, called-for}
 use Rattle.judgements.specs.Grounds.{Calls, Takes}
 use Rattle.judgements.specs.Decided.{Decided, asked-transfer, MovesRun}
 use Rattle.judgements.specs.declared.Answer.the-variants.{Done}
 use Rattle.judgements.specs.declared.Deed.{Deed}
+use Rattle.judgements.specs.declared.Deed.the-variants.{Move}
 use Rattle.calls.specs.Step.{sight, callerOf, judgedIn}
 use Rattle.calls.specs.Effects.{after, deedIn, answerIn}
 use Rattle.calls.specs.Left.{done-zero, zero-done}
@@ -29,6 +33,10 @@ use Rattle.guarantees.specs.Runs.{Event, byte, next, reply, Taken}
 use Rattle.guarantees.specs.Named.{AsksTransfer, ToldZero}
 use Rattle.guarantees.specs.Fit.{Fit}
 use Rattle.guarantees.specs.Entries.{is-caller}
+
+-- a part of what a handler knows a call as
+pub partly : {s : Sight} {xs : List ℕ} {P Q : ℕ → Type 0} → Reached s xs P → ((h : ℕ) → P h → Q h) → Reached s xs Q
+partly r f = record { passes = r .passes; number = r .number; reached = r .reached; so = f (r .number) (r .so) }
 
 -- the core may call, and the machine after the call is the call's
 pub record Performs (m : Machine) (core : ℕ) (xs : List ℕ) (o : Machine × Reply) : Type 0 where
@@ -106,3 +114,16 @@ module _ (m : Machine) (fit : Fit m) (e : Event) (core : ℕ) (is : e .0 ≡ Fra
   -- So a granted transfer moves its run.
   pub transfer-moves : (start count to : ℕ) → AsksTransfer m core (e .1) start count to → ToldZero m core e → MovesRun (stateOf m .site .window) start count to (deedIn (stateOf m) core (e .1))
   transfer-moves start count to a z = told-done _ (asked-transfer (sight (stateOf m) core) (e .1) start count to a) z
+
+  -- And what moves a run is a granted transfer of it.
+  pub record Granted (first count to : ℕ) : Type 0 where
+    pub start : ℕ
+    pub asks : AsksTransfer m core (e .1) start count to
+    pub told : ToldZero m core e
+    pub lies : runOf (stateOf m .site .window) start count ≡ Page first
+
+  pub moves-granted : (first count to : ℕ) → deedIn (stateOf m) core (e .1) ≡ Move first count to → Granted first count to
+  moves-granted first count to d =
+      let v = called-for (sight (stateOf m) core) (e .1) (Move first count to) (λ k. let z : _≡_ {A = ℕ} 0 1 = cc in omega arith) d in
+      let a = v .so .0 in
+      record { start = a .start; asks = record { passes = v .passes; number = v .number; reached = v .reached; so = a .asks }; told = done-told (v .so .1); lies = a .lies }

@@ -1,4 +1,4 @@
--- Who is named as a page's owner by a run: what a reader takes to be the last granted transfer of the page, and the set-up line that named it.
+-- What a call asks for, and who is named as a page's owner by a run: what a reader takes to be the last granted transfer of the page, and the set-up line that named it.
 use mathlib.Core.Path.{_≡_}
 use mathlib.Core.List.{List, [], _∷_, _++_}
 use mathlib.Core.Logic.{_⊎_}

@@ -14,7 +14,6 @@ use Rattle.pages.specs.declared.Place.the-variants.{Page}
 use Rattle.rules.specs.declared.Entered.the-variants as Entered
 use Rattle.judgements.specs.declared.Deed.{Deed}
 use Rattle.judgements.specs.declared.Deed.the-variants.{Nothing, Move, Map, Unmap, Start, GoOff, HandOver, Finish}
-use Rattle.calls.specs.Step.{sight}
 use Rattle.calls.specs.Effects.{deedIn, after, Carries, owners-spared, moved-inside, moved-outside}
 use Rattle.parsing.specs.declared.Status.{Status}
 use Rattle.parsing.specs.declared.Status.the-variants.{Accepted}
@@ -27,8 +26,7 @@ use Rattle.frames.specs.Stays.{framed-by, shown-not-told, settled, call-ends}
 use Rattle.calling.specs.declared.Reply.{Reply}
 use Rattle.calling.specs.declared.Reply.the-variants.{Told, Called}
 use Rattle.guarantees.specs.Runs.{Event, Events, byte, next, reply, ran, ran-two, always}
-use Rattle.judgements.specs.Asked.{called-for}
-use Rattle.guarantees.specs.Accepted.{done-told, transfer-moves}
+use Rattle.guarantees.specs.Accepted.{transfer-moves, moves-granted}
 use Rattle.guarantees.specs.Named.{Transfers, Names, Unmoved, Unnamed, Named, by-transfer, by-set-up, as-before}
 use Rattle.guarantees.specs.Fit.{Fit, fit-next}
 
@@ -115,9 +113,9 @@ module _ (m : Machine) (fit : Fit m) (e : Event) (page : ℕ) where
   call-outcome core a is ok o w =
       transfer-or-not (deedIn (stateOf m) core (e .1))
       (λ lowest count to d.
-      let v = called-for (sight (stateOf m) core) (e .1) (Move lowest count to) (λ k. let z : _≡_ {A = ℕ} 0 1 = cc in omega arith) d in
+      let v = moves-granted m fit e core is ok lowest count to d in
       inside-or-not lowest count page
-      (λ h l. gave to (moves (record { core = core; is-call = is; accepted = ok; start = v .so .0 .start; count = count; asks = record { passes = v .passes; number = v .number; reached = v .reached; so = v .so .0 .asks }; granted = done-told m fit e core is ok (v .so .1); lowest = lowest; lies = v .so .0 .lies; low = h; high = l }))
+      (λ h l. gave to (moves (record { core = core; is-call = is; accepted = ok; start = v .start; count = count; asks = v .asks; granted = v .told; lowest = lowest; lies = v .lies; low = h; high = l }))
       (rw w (moved-inside (stateOf m) core (e .1) lowest count to d page (fit .right a .whole .owners-whole) h l .1)))
       (λ n. kept (λ u. elsewhere u lowest count to d n) (rw w (moved-outside (stateOf m) core (e .1) lowest count to d page n))))
       (λ n. kept (λ u. still u n) (rw w (ap (λ (t : List ℕ). owner t page) (owners-spared (stateOf m) core (e .1) n))))

@@ -32,7 +32,7 @@ use Rattle.calling.specs.declared.Reply.the-variants.{Told}
 use Rattle.guarantees.specs.Runs.{Event, Events, next, reply, Taken, ran}
 use Rattle.guarantees.specs.Named.{AsksStart, ToldZero}
 use Rattle.guarantees.specs.Fit.{Fit, fit-next, first-fit}
-use Rattle.guarantees.specs.Accepted.{performs, right, inside, powers-are, done-told, told-done}
+use Rattle.guarantees.specs.Accepted.{partly, performs, right, inside, powers-are, done-told, told-done}
 
 -- ---- what a reader takes to be the last granted start
 -- A granted start of a core: the line is a call, it is accepted, in the machine that it meets it asks for the start of this
@@ -112,7 +112,7 @@ module _ (m : Machine) (fit : Fit m) (e : Event) (target : ℕ) where
         core = core;
         is-call = is;
         accepted = t;
-        asks = record { passes = v .passes; number = v .number; reached = v .reached; so = v .so .0 };
+        asks = partly v (λ h k. k .0);
         granted = done-told m fit e core is t (v .so .1 .1);
         x1 = sym (z ∙ v .so .1 .0 .0);
         x2 = sym (v .so .1 .0 .1 .0);

@@ -180,7 +180,7 @@ module _ (m : Machine) (core : ℕ) (xs : List ℕ) where
       -- A call that passes that test is judged by the handler that the ledger has for its type and owner, or by none.
       pub dispatched : admitted (calledBy xs) ≡ true
           → judgedIn (stateOf m) core xs ≡ found (sight (stateOf m) core .inner) (argsOf (calledBy xs) xs) (key xs) (handler (m .ledger) (calledBy xs .fast) (calledBy xs .owner))
-      -- A refused call changes nothing but that.
+      -- A call that is refused for a reason leaves the machine of that refusal.
       pub refused : (r : Reason) → answerIn (stateOf m) core xs ≡ No r → last ≡ denied (minus r)
       -- ---- what its caller finds
       -- The results that its answer lists, from x0 on; behind them the frame's numbers; its start address stays.
@@ -259,10 +259,10 @@ pub record HeededOther (m last : Machine) : Type 0 where
 pub record Heeded (m : Machine) (e : Event) (last : Machine) (answer : Reply) : Type 0 where
   -- A refused frame changes nothing.
   pub refused-frame : (why : Status) → answer ≡ Told why → (why ≡ Accepted → ⊥) → last ≡ m
-  -- A call is refused as a frame, or all of the above is so of it; it is never told that it is accepted.
+  -- A call that is not refused as a frame is heeded as above; it is never told a plain acceptance.
   pub call : (core : ℕ) → e .0 ≡ Frame.Call core → length (e .1) ≡ 8 → Taken answer → HeededCall m core (e .1) last answer
   pub call-told : (core : ℕ) → e .0 ≡ Frame.Call core → answer ≡ Told Accepted → ⊥
-  -- So is an arrival; and no line but a call is answered as one, or ends set-up.
+  -- So is an accepted arrival, and any other line; no line but a call is answered as one, or ends set-up.
   pub arrival : (core : ℕ) → e .0 ≡ Frame.Arrival core → answer ≡ Told Accepted → HeededArrival m core last
   pub other : ((core : ℕ) → e .0 ≡ Frame.Call core → ⊥) → ((core : ℕ) → e .0 ≡ Frame.Arrival core → ⊥) → HeededOther m last
   pub other-told : ((core : ℕ) → e .0 ≡ Frame.Call core → ⊥) → Taken answer → ⊥

@@ -43,7 +43,7 @@ use Rattle.calling.specs.declared.Reply.the-variants.{Told, Called}
 use Rattle.guarantees.specs.Runs.{Event, byte, next, reply, Taken}
 use Rattle.guarantees.specs.Fit.{Fit}
 use Rattle.guarantees.specs.Entries.{reaches}
-use Rattle.guarantees.specs.Accepted.{performs, right, inside, may, calling, saved-are, owners-are, powers-are, turns-are, lists-are, done-told, told-done, transfer-moves}
+use Rattle.guarantees.specs.Accepted.{partly, performs, right, inside, may, calling, saved-are, owners-are, powers-are, turns-are, lists-are, done-told, told-done, transfer-moves, moves-granted}
 use Rattle.guarantees.specs.Statements.{running, caller, arg, HandsOver, GivesBack, SwitchesOff, denied, HeededCall, HeededArrival, HeededOther, Heeded}
 
 -- only a hand-over to a world, or a finish, writes the world's numbers
@@ -100,7 +100,7 @@ module _ (m : Machine) (fit : Fit m) (e : Event) (core : ℕ) (is : e .0 ≡ Fra
   pub hands-asked : (to : ℕ) → deed ≡ HandOver to → HandsOver m core xs to
   hands-asked to d =
       let r = called-for (sight s core) xs (HandOver to) (λ k. let z : _≡_ {A = ℕ} 0 1 = cc in omega arith) d in
-      (Effects.hands s core xs to d .0, record { passes = r .passes; number = r .number; reached = r .reached; so = r .so .0 })
+      (Effects.hands s core xs to d .0, partly r (λ h k. k .0))
 
   pub gives-back : GivesBack m core xs → deed ≡ Finish
   gives-back a = asked-finish (sight s core) xs (may m fit e core is t) (right m fit e core is t .running core (inside m fit e core is t) .away (finisher (a .so)) .0) a
@@ -108,7 +108,7 @@ module _ (m : Machine) (fit : Fit m) (e : Event) (core : ℕ) (is : e .0 ≡ Fra
   pub gives-back-asked : deed ≡ Finish → GivesBack m core xs
   gives-back-asked d =
       let r = called-for (sight s core) xs Finish (λ k. let z : _≡_ {A = ℕ} 0 1 = cc in omega arith) d in
-      record { passes = r .passes; number = r .number; reached = r .reached; so = r .so .0 }
+      partly r (λ h k. k .0)
 
   goes-off : SwitchesOff m core xs → deed ≡ GoOff
   goes-off a = asked-off (sight s core) xs (may m fit e core is t) (a .0) (a .1)
@@ -116,7 +116,7 @@ module _ (m : Machine) (fit : Fit m) (e : Event) (core : ℕ) (is : e .0 ≡ Fra
   off-asked : deed ≡ GoOff → SwitchesOff m core xs
   off-asked d =
       let r = called-for (sight s core) xs GoOff (λ k. let z : _≡_ {A = ℕ} 0 1 = cc in omega arith) d in
-      (rw d at (grounded (sight s core) xs .stands), record { passes = r .passes; number = r .number; reached = r .reached; so = r .so .0 })
+      (rw d at (grounded (sight s core) xs .stands), partly r (λ h k. k .0))
 
   -- ---- what is left
   whole : Whole (m .saved)
@@ -203,8 +203,8 @@ module _ (m : Machine) (fit : Fit m) (e : Event) (core : ℕ) (is : e .0 ≡ Fra
             };
         owners-stay = λ n.
             owners-are m fit e core is t ∙ Effects.owners-spared s core xs (carries deed (λ first count to d.
-            let v = called-for (sight s core) xs (Move first count to) (λ k. let z : _≡_ {A = ℕ} 0 1 = cc in omega arith) d in
-            n (v .so .0 .start) count to (record { passes = v .passes; number = v .number; reached = v .reached; so = v .so .0 .asks }) (done-told m fit e core is t (v .so .1))));
+            let v = moves-granted m fit e core is t first count to d in
+            n (v .start) count to (v .asks) (v .told)));
         map-done = λ a z n.
             rw (lists-are m fit e core is t) (Left.list-mapped s core xs (wanted (argsOf (calledBy xs) xs))
             (told-done m fit e core is t (λ (d : Deed). d ≡ Map (wanted (argsOf (calledBy xs) xs))) (asked-map (sight s core) xs a n) z) (r .window) (r .whole .lists-whole) c);
@@ -215,11 +215,11 @@ module _ (m : Machine) (fit : Fit m) (e : Event) (core : ℕ) (is : e .0 ≡ Fra
             lists-are m fit e core is t ∙ Left.lists-spared s core xs
             (λ n d.
             let v = called-for (sight s core) xs (Map n) (λ k. let z : _≡_ {A = ℕ} 0 1 = cc in omega arith) d in
-            a (record { passes = v .passes; number = v .number; reached = v .reached; so = v .so .0 }) (done-told m fit e core is t (v .so .1 .1))
+            a (partly v (λ h k. k .0)) (done-told m fit e core is t (v .so .1 .1))
             (λ z. some-size n d (ap (λ (q : Mapping). q .size) (v .so .1 .0) ∙ z)))
             (λ virt size d.
             let v = called-for (sight s core) xs (Unmap virt size) (λ k. let z : _≡_ {A = ℕ} 0 1 = cc in omega arith) d in
-            b (record { passes = v .passes; number = v .number; reached = v .reached; so = v .so .0 }) (done-told m fit e core is t (v .so .1 .1)));
+            b (partly v (λ h k. k .0)) (done-told m fit e core is t (v .so .1 .1)));
         other-lists = λ w n. rw (lists-are m fit e core is t) (Left.lists-others s core xs w n);
         start-done = λ a z.
             rw (powers-are m fit e core is t) (Left.power-started s core xs (arg m core xs 1) (arg m core xs 2) (arg m core xs 3)
@@ -229,7 +229,7 @@ module _ (m : Machine) (fit : Fit m) (e : Event) (core : ℕ) (is : e .0 ≡ Fra
             rw (powers-are m fit e core is t) (Left.power-spared s core xs k
             (λ start context d.
             let v = called-for (sight s core) xs (Start k start context) (λ k. let z : _≡_ {A = ℕ} 0 1 = cc in omega arith) d in
-            a (record { passes = v .passes; number = v .number; reached = v .reached; so = v .so .0 }) (done-told m fit e core is t (v .so .1 .1)) (v .so .1 .0 .0))
+            a (partly v (λ h k. k .0)) (done-told m fit e core is t (v .so .1 .1)) (v .so .1 .0 .0))
             (λ d q. b (off-asked d) q));
       }
 
