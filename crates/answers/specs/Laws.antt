@@ -1,11 +1,11 @@
 -- How the code's branches meet the definitions of Answers, and what an answer leaves.
-use mathlib.Core.Path.{_≡_, sym, _∙_}
-use mathlib.Core.Bool.{Bool}
+use mathlib.Core.Path.{_≡_, refl, sym, _∙_}
+use mathlib.Core.Bool.{Bool, true, false}
 use mathlib.Core.List.{List, [], _∷_}
-use Prim.Native.Nat.{ℕ, _≤_, _<_}
+use Prim.Native.Nat.{ℕ, zero, suc, _^_, _≤_, _<_}
 use native.Mathlib.Omega.{arith}
 use lib.ListN.{length, getD}
-use Rattle.rules.specs.Reasons.{minus}
+use Rattle.rules.specs.Reasons.{minus, minus-at}
 use Rattle.rules.specs.declared.Reason.{Reason}
 use Rattle.identifiers.specs.declared.Parts.{Parts}
 use Rattle.registers.specs.Registers.{Whole, saved, saving, saving-none, saving-whole, saving-at, saving-past, saving-other}
@@ -34,7 +34,7 @@ pub answered : (r q r′ xs : List ℕ) (c w : ℕ) (p : Parts) (a : Answer) →
 answered r q r′ xs c w p a e h = rw (← e) h
 
 -- ---- what an answer leaves
-written-few : (p : Parts) (a : Answer) → length (written p a) ≤ 3
+pub written-few : (p : Parts) (a : Answer) → length (written p a) ≤ 3
 written-few p Version = omega arith
 written-few p PowerVersion = omega arith
 written-few p Done = omega arith
@@ -46,6 +46,49 @@ written-few p (Leads phys attr) = omega arith
 written-few p (Count n) = omega arith
 written-few p Silent = omega arith
 written-few p (No r) = omega arith
+
+-- An answer writes one number at most, unless it tells where an address leads.
+pub written-one : (p : Parts) (a : Answer) → ((phys attr : ℕ) → a ≡ Leads phys attr → ⊥) → length (written p a) ≤ 1
+written-one p Version n = omega arith
+written-one p PowerVersion n = omega arith
+written-one p Done n = omega arith
+written-one p On n = omega arith
+written-one p Off n = omega arith
+written-one p Pending n = omega arith
+written-one p (Owns is) n = omega arith
+written-one p (Leads phys attr) n = absurd (n phys attr refl)
+written-one p (Count k) n = omega arith
+written-one p Silent n = omega arith
+written-one p (No r) n = omega arith
+
+-- No refusal is written as 0.
+pub negative-some : (p : Parts) (r : Reason) → negative p (minus r) ≡ 0 → ⊥
+negative-some p r e = let k = minus-at r in omega (arith, k .0, k .1)
+
+-- ---- what is written fits 64 bits, where an address, its attributes and a count do
+one-fits : (n j : ℕ) → n < 2 ^ 64 → getD (n ∷ []) j 0 < 2 ^ 64
+one-fits n zero h = h
+one-fits n (suc j) h = omega arith
+
+three-fit : (a b c j : ℕ) → a < 2 ^ 64 → b < 2 ^ 64 → c < 2 ^ 64 → getD (a ∷ b ∷ c ∷ []) j 0 < 2 ^ 64
+three-fit a b c zero h k l = h
+three-fit a b c (suc zero) h k l = k
+three-fit a b c (suc (suc j)) h k l = one-fits c j l
+
+pub written-fits : (p : Parts) (a : Answer) → ((phys attr : ℕ) → a ≡ Leads phys attr → (phys < 2 ^ 64) × (attr < 2 ^ 64)) → ((n : ℕ) → a ≡ Count n → n < 2 ^ 64)
+    → (j : ℕ) → getD (written p a) j 0 < 2 ^ 64
+written-fits p Version l c j = one-fits 0x10002 j (omega arith)
+written-fits p PowerVersion l c j = one-fits 0x10001 j (omega arith)
+written-fits p Done l c j = one-fits 0 j (omega arith)
+written-fits p On l c j = one-fits 0 j (omega arith)
+written-fits p Off l c j = one-fits 1 j (omega arith)
+written-fits p Pending l c j = one-fits 2 j (omega arith)
+written-fits p (Owns true) l c j = one-fits 1 j (omega arith)
+written-fits p (Owns false) l c j = one-fits 0 j (omega arith)
+written-fits p (Leads phys attr) l c j = let k = l phys attr refl in three-fit 0 phys attr j (omega arith) (k .0) (k .1)
+written-fits p (Count n) l c j = one-fits n j (c n refl)
+written-fits p Silent l c j = omega arith
+written-fits p (No r) l c j = one-fits (negative p (minus r)) j (omega (arith, minus-at r .0))
 
 module _ (r : List ℕ) (core caller : ℕ) (xs : List ℕ) (a : Answer) where
   pub answered-whole : Whole r → Whole (answeredIn r core caller xs a)

@@ -10,8 +10,9 @@ use lib.Seq.{getD-take, getD-drop}
 use Rattle.rules.specs.Choice.{pick-yes, pick-no, either}
 use Rattle.rules.specs.declared.Reason.{Reason}
 use Rattle.registers.specs.Registers.{Whole, saved, saving, saving-at, saving-past, saving-other}
-use Rattle.cores.specs.Power.{turnOf, put, on, isPending, arrived-pending, handed, finished}
-use Rattle.cores.specs.Cores.{WholePowers, WholeTurns, power, withPower, turn, withTurn, power-same, turn-same}
+use Rattle.cores.specs.Power.{put, on, isPending, arrived-pending, entered}
+use Rattle.cores.specs.Cores.{WholePowers, WholeTurns, power, withPower, turn, withTurn, power-same, power-other, turn-same}
+use Rattle.cores.specs.declared.Turn.{Turn}
 use Rattle.rules.specs.Sizes.{lastWorld}
 use Rattle.pages.specs.Owners.{WholeOwners, owner, given-outside}
 use Rattle.ranges.specs.declared.Mapping.{Mapping}
@@ -28,7 +29,8 @@ use Rattle.judgements.specs.declared.Deed.the-variants.{Nothing, Move, Map, Unm
 use Rattle.rules.specs.Reasons.{minus}
 use Rattle.answers.specs.Answers.{negative, written}
 use Rattle.answers.specs.Laws.{answered-whole, answered-other, answered-listed, answered-unlisted, answered-past}
-use Rattle.deeds.specs.Deeds.{returned, finishNumbers}
+pub use Rattle.deeds.specs.Deeds.{returned}
+use Rattle.deeds.specs.Deeds.{finishNumbers}
 use Rattle.calls.specs.Step.{State, state, sight, callerOf, judgedIn, carriedIn, withAnswer, applied, called, CoreTables, startNumbers, arrivedIn, arrives}
 
 -- ---- names for a step
@@ -200,16 +202,6 @@ between-worlds {v} toCaller t = (omega arith, ⊎-elim (λ (y : v .caller .world
 between-worlds {v} toNormal t = (⊎-elim (λ (y : v .caller .world ≡ secure). omega arith) (λ (y : v .caller .world ≡ realm). omega arith) t, omega arith)
 
 module _ (s : State) (core : ℕ) (xs : List ℕ) where
-  -- After a hand-over the receiver runs, with the hand-over open.
-  pub turn-handed : (to : ℕ) → deedIn s core xs ≡ HandOver to → WholeTurns (s .turns) → core < 8 → turn (after s core xs .turns) core ≡ turnOf to true
-  unfolding called applied
-  turn-handed to e w h = rw e (turn-same (s .turns) core (handed (turn (s .turns) core) to) w h)
-
-  -- After a finish Normal runs, with nothing open.
-  pub turn-finished : deedIn s core xs ≡ Finish → WholeTurns (s .turns) → core < 8 → turn (after s core xs .turns) core ≡ turnOf normal false
-  unfolding called applied
-  turn-finished e w h = rw e (turn-same (s .turns) core (finished (turn (s .turns) core)) w h)
-
   -- A call that is no granted transfer leaves every owner.
   pub owners-spared : (Carries (deedIn s core xs) → ⊥) → after s core xs .owners ≡ s .owners
   unfolding called applied
@@ -248,7 +240,7 @@ comeIn s core =
     state (s .site) (s .ledger) (s .owners)
     (saving (s .saved) core normal (startNumbers (power (s .powers) core)))
     (withPower (s .powers) core (put (power (s .powers) core) on))
-    (withTurn (s .turns) core (turnOf normal false))
+    (withTurn (s .turns) core (entered (turn (s .turns) core)))
     (s .lists)
 
 module _ (s : State) (core : ℕ) where
@@ -276,6 +268,11 @@ module _ (s : State) (core : ℕ) where
   arrival-saved c u j n =
       arrival-by (λ (q : State). saved (q .saved) c u j ≡ saved (s .saved) c u j) refl (λ y. saving-other (s .saved) core normal (startNumbers (power (s .powers) core)) c u j n)
 
+  -- It leaves the power of every other core.
+  pub arrival-powers : (c : ℕ) → (c ≡ core → ⊥) → power (afterArrival s core .powers) c ≡ power (s .powers) c
+  arrival-powers c n =
+      arrival-by (λ (q : State). power (q .powers) c ≡ power (s .powers) c) refl (λ y. power-other (s .powers) core (put (power (s .powers) core) on) c n)
+
   module _ (y : isPending (power (s .powers) core) ≡ true) (h : core < 8) where
     -- A core that arrives finds the context in x0, zero in x1 to x7, and then its start address.
     pub arrived-numbers : (j : ℕ) → Whole (s .saved) → j < 9 → saved (afterArrival s core .saved) core normal j ≡ getD (startNumbers (power (s .powers) core)) j 0
@@ -283,13 +280,14 @@ module _ (s : State) (core : ℕ) where
         arrived-by (λ (q : State). saved (q .saved) core normal j ≡ getD (startNumbers (power (s .powers) core)) j 0) y
         (saving-at (s .saved) core normal (startNumbers (power (s .powers) core)) j w h (omega arith) l (omega arith))
 
-    -- It is ON, in Normal, with nothing open.
+    -- It is ON, in Normal.
     pub arrived-power : WholePowers (s .powers) → power (afterArrival s core .powers) core ≡ put (power (s .powers) core) on
     arrived-power w =
         arrived-by (λ (q : State). power (q .powers) core ≡ put (power (s .powers) core) on) y (power-same (s .powers) core (put (power (s .powers) core) on) w h)
 
-    pub arrived-turn : WholeTurns (s .turns) → turn (afterArrival s core .turns) core ≡ turnOf normal false
-    arrived-turn w = arrived-by (λ (q : State). turn (q .turns) core ≡ turnOf normal false) y (turn-same (s .turns) core (turnOf normal false) w h)
+    pub arrived-runs : WholeTurns (s .turns) → turn (afterArrival s core .turns) core .world ≡ normal
+    arrived-runs w =
+        arrived-by (λ (q : State). turn (q .turns) core .world ≡ normal) y (ap (λ (t : Turn). t .world) (turn-same (s .turns) core (entered (turn (s .turns) core)) w h))
 
 -- ---- tables that have all their numbers
 pub record WholeTables (s : State) : Type 0 where

@@ -195,6 +195,17 @@ pub first-powers-whole : WholePowers firstPowers
 unfolding firstPowers WholePowers
 first-powers-whole = write-whole powers (replicate powers 0) 0 on (blank-whole powers 0)
 
+pub first-power-zero : power firstPowers 0 ≡ powerOf on 0 0
+unfolding power firstPowers
+first-power-zero =
+    rw (
+      write-same powers (replicate powers 0) 0 on (blank-whole powers 0) (omega arith),
+      write-other powers (replicate powers 0) 0 on 1 (λ e. omega arith),
+      write-other powers (replicate powers 0) 0 on 2 (λ e. omega arith),
+      zeros-read 1,
+      zeros-read 2,
+    )
+
 pub first-power-other : (core : ℕ) → (core ≡ 0 → ⊥) → power firstPowers core ≡ powerOf off 0 0
 unfolding power firstPowers
 first-power-other core d =

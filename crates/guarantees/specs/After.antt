@@ -84,7 +84,7 @@ module _ (m : Machine) (fit : Fit m) where
   unfolding isOn isPending
   fit-absent core e h = let a = fit .right e .absent core h in (rw a, rw a)
 
-  fit-runs : (core : ℕ) → isOn (power (m .powers) core) ≡ true → Calls (turn (m .turns) core .world)
+  pub fit-runs : (core : ℕ) → isOn (power (m .powers) core) ≡ true → Calls (turn (m .turns) core .world)
   unfolding isOn
   fit-runs core o =
       by-time

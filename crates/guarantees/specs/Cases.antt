@@ -3,7 +3,7 @@ use mathlib.Core.Path.{_≡_, refl, ap, _∙_}
 use mathlib.Core.Bool.{true, false}
 use mathlib.Core.List.{List, [], _∷_}
 use mathlib.Core.Logic.{_⊎_, inl, inr}
-use Prim.Native.Nat.{ℕ, zero, suc, _+_, _-_, _*_, _/_, _%_, _^_, _<_}
+use Prim.Native.Nat.{ℕ, zero, suc, _+_, _-_, _*_, _/_, _%_, _<_}
 use native.Mathlib.Omega.{arith}
 use lib.Dec.{eqb, leb}
 use lib.ListN.{getD}
@@ -27,14 +27,14 @@ use Rattle.mapping.specs.Mapping.{unaligned, malformed, mapVerdict, hasExactly,
 use Rattle.mapping.specs.Lists.{held, held-some}
 use Rattle.ranges.specs.declared.Mapping.{Mapping}
 use Rattle.transfers.specs.Transfer.{moveTests, moveVerdict}
-use Rattle.judgements.specs.Names.{secure, normal, realm}
+use Rattle.rules.specs.Sizes.{secure, normal, realm}
 use Rattle.judgements.specs.Judge.{HandlerSight, denied, granted, oneOf, callers, calledBy, argsOf, byHandler, found, judgedBy, judged, board, wanted, mapping, unmapping, standard, starting, tellingState, goodStart, ownedAt, realmCall, granuleIn, granuleOut, moving}
 use Rattle.judgements.specs.declared.Answer.{Answer}
 use Rattle.judgements.specs.declared.Answer.the-variants as Answer
 use Rattle.judgements.specs.declared.Deed.the-variants as Deed
 use Rattle.judgements.specs.declared.Judged.{Judged}
 use Rattle.judgements.specs.declared.Args.{Args}
-use Rattle.answers.specs.Answers.{written}
+use Rattle.answers.specs.Answers.{negative, written}
 use Rattle.calls.specs.Step.{State, state, sight, callerOf, judgedIn}
 use Rattle.calls.specs.Effects.{resultsIn, after, stepped-by}
 
@@ -76,6 +76,15 @@ pub record Answered (c : Call) (n : ℕ) : Type 0 where
       (saving (saving (c .before .saved) (c .core) (world c) (c .numbers)) (c .core) (world c) (n ∷ []))
       (c .before .powers) (c .before .turns) (c .before .lists)
 
+-- what is written for an answer: a number as it stands, or -n as the call has it written
+pub data Told : Type 0 where
+  plain : ℕ → Told
+  minus : ℕ → Told
+
+abbrev pub numberOf : Call → Told → ℕ
+numberOf c (plain n) = n
+numberOf c (minus n) = negative (calledBy (c .numbers)) n
+
 -- ---- the table
 pub data Row : Type 1 where
   -- an identifier, and its five parts
@@ -83,20 +92,16 @@ pub data Row : Type 1 where
   -- an identifier that passes the test of bits 23 to 16
   passes : ℕ → Row
   -- an identifier, and the answer to every call that bears it
-  always : ℕ → ℕ → Row
+  always : ℕ → Told → Row
   -- identifiers, the handler that they reach, the worlds that call, what more the case says of the call, and its answer
-  answers : List ℕ → ℕ → List ℕ → (Call → Type 0) → ℕ → Row
+  answers : List ℕ → ℕ → List ℕ → (Call → Type 0) → Told → Row
 
 -- what a row says: of every x0 with its identifier, and of every call of which the facts that it names hold
 abbrev pub Holds : Row → Type 0
 Holds (splits id p) = (x0 : ℕ) → low32 x0 ≡ id → parts (identifierOf x0) ≡ p
 Holds (passes id) = (x0 : ℕ) → low32 x0 ≡ id → admitted (parts (identifierOf x0)) ≡ true
-Holds (always id n) = (c : Call) → identifier c ≡ id → Answered c n
-Holds (answers ids h worlds facts n) = (c : Call) → Among (identifier c) ids → Reaches c h → Among (world c) worlds → facts c → Answered c n
-
--- -n, as it is written
-abbrev pub negative : ℕ → ℕ
-negative n = 2 ^ 64 - n
+Holds (always id a) = (c : Call) → identifier c ≡ id → Answered c (numberOf c a)
+Holds (answers ids h worlds facts a) = (c : Call) → Among (identifier c) ids → Reaches c h → Among (world c) worlds → facts c → Answered c (numberOf c a)
 
 -- every world but Root, which makes no calls
 abbrev pub anyWorld : List ℕ
@@ -133,15 +138,15 @@ table =
     splits 0x84000000 (record { fast = 1; wide = 0; owner = 4; function = 0; reserved = 0 })  -- P1
     ∷ splits 0xC40001B0 (record { fast = 1; wide = 1; owner = 4; function = 0x1B0; reserved = 0 })  -- P2
     ∷ splits 0xF2000000 (record { fast = 1; wide = 1; owner = 50; function = 0; reserved = 0 })  -- P3
-    ∷ always 0x84010000 (negative 1)  -- P4
+    ∷ always 0x84010000 (minus 1)  -- P4
     ∷ passes 0x04010000  -- P5
-    ∷ answers onePage 2 (realm ∷ []) (PageAt (λ w. w .base + 4095)) (negative 2)  -- P6
-    ∷ answers onePage 2 (realm ∷ []) (PageAt (λ w. w .base + 4096 * w .pages)) (negative 2)  -- P7
-    ∷ answers (0xC2000020 ∷ []) 1 anyWorld (λ c. x c 3 ≡ 0) 0  -- P8, whatever the addresses
-    ∷ answers (0xC2000020 ∷ []) 1 anyWorld (λ c. (x c 3 ≡ 4096) × (x c 4 ≡ 3)) (negative 22)  -- P9
-    ∷ answers (0xC2000021 ∷ []) 1 anyWorld HalfTheOnly (negative 22)  -- P10
-    ∷ answers (0x84000004 ∷ 0xC4000004 ∷ []) 2 (normal ∷ []) (λ c. x c 2 ≡ 1) (negative 2)  -- P11
-    ∷ answers (0x84000003 ∷ 0xC4000003 ∷ []) 2 (normal ∷ []) OneselfWell (negative 4)  -- P12
+    ∷ answers onePage 2 (realm ∷ []) (PageAt (λ w. w .base + 4095)) (minus 2)  -- P6
+    ∷ answers onePage 2 (realm ∷ []) (PageAt (λ w. w .base + 4096 * w .pages)) (minus 2)  -- P7
+    ∷ answers (0xC2000020 ∷ []) 1 anyWorld (λ c. x c 3 ≡ 0) (plain 0)  -- P8, whatever the addresses
+    ∷ answers (0xC2000020 ∷ []) 1 anyWorld (λ c. (x c 3 ≡ 4096) × (x c 4 ≡ 3)) (minus 22)  -- P9
+    ∷ answers (0xC2000021 ∷ []) 1 anyWorld HalfTheOnly (minus 22)  -- P10
+    ∷ answers (0x84000004 ∷ 0xC4000004 ∷ []) 2 (normal ∷ []) (λ c. x c 2 ≡ 1) (minus 2)  -- P11
+    ∷ answers (0x84000003 ∷ 0xC4000003 ∷ []) 2 (normal ∷ []) OneselfWell (minus 4)  -- P12
     ∷ []
 
 -- each row holds
@@ -182,12 +187,12 @@ among n (k ∷ ks) (inr m) = second-or (eqb n k) _ (among n ks m)
 
 -- a call that reaches its handler from a world that may call is judged there
 module _ (c : Call) {id h : ℕ} (e : identifier c ≡ id) (to : Reaches c h) (may : Among (world c) anyWorld) where
-  reached : admitted (parts (record { 0 = id })) ≡ true → judgement c ≡ byHandler (view c) (args c) id h
-  unfolding judged judgedBy identifierOf keyOf sieve pick found
+  reached : admitted (parts (record { 0 = id })) ≡ true → judgement c ≡ byHandler (view c) (args c) (keyOf (record { 0 = id })) h
+  unfolding judged judgedBy identifierOf sieve pick found
   reached t = rw (to, e, t, among (world c) anyWorld may)
 
   settled : (a : Answer) {n : ℕ} → written (calledBy (c .numbers)) a ≡ n ∷ [] → admitted (parts (record { 0 = id })) ≡ true
-      → byHandler (view c) (args c) id h ≡ granted a Deed.Nothing → Answered c n
+      → byHandler (view c) (args c) (keyOf (record { 0 = id })) h ≡ granted a Deed.Nothing → Answered c n
   settled a w t j = answered c a w (reached t ∙ j)
 
 from-realm : {w : ℕ} → w ≡ realm → Among w anyWorld
@@ -202,8 +207,8 @@ unfolding judged judgedBy identifierOf parts admitted sieve pick
 p4 c e = answered c (Answer.No Reason.Unserved) refl (rw e (either (oneOf (world c) callers) (λ y. rw y) (λ n. rw n)))
 
 -- a page that is none of the window
-no-page : (c : Call) → Among (identifier c) onePage → Reaches c 2 → world c ≡ realm → runOf (window c) (x c 1) 1 ≡ Outside → Answered c (negative 2)
-unfolding argsOf byHandler standard realmCall granuleIn granuleOut moving moveVerdict moveTests pick sieve admitted parts
+no-page : (c : Call) → Among (identifier c) onePage → Reaches c 2 → world c ≡ realm → runOf (window c) (x c 1) 1 ≡ Outside → Answered c (numberOf c (minus 2))
+unfolding keyOf argsOf byHandler standard realmCall granuleIn granuleOut moving moveVerdict moveTests pick sieve admitted parts
 no-page c (inl e) to r o = settled c e to (from-realm r) (Answer.No Reason.Invalid) refl refl (rw (r, o))
 no-page c (inr (inl e)) to r o = settled c e to (from-realm r) (Answer.No Reason.Invalid) refl refl (rw (r, o))
 
@@ -214,7 +219,7 @@ p7 : Holds (case 7)
 p7 c i to (inl r) f = no-page c i to r (run-past (window c) (f .0) (x c 1) 1 (omega (arith, f .1)))
 
 p8 : Holds (case 8)
-unfolding argsOf byHandler board mapping mapVerdict pick admitted parts
+unfolding keyOf argsOf byHandler board mapping mapVerdict pick admitted parts
 p8 c (inl e) to may f = settled c e to may Answer.Done refl refl (rw f)
 
 no-attributes : (m : Mapping) → 2 < m .attr → malformed m ≡ true
@@ -222,7 +227,7 @@ unfolding malformed
 no-attributes m h = second-or (unaligned (m .virt)) _ (second-or (unaligned (m .phys)) _ (second-or (unaligned (m .size)) _ (lt-ltb 2 (m .attr) h)))
 
 p9 : Holds (case 9)
-unfolding argsOf byHandler board mapping mapVerdict sieve pick admitted parts
+unfolding keyOf argsOf byHandler board mapping mapVerdict sieve pick admitted parts
 p9 c (inl e) to may f =
     settled c e to may (Answer.No Reason.Malformed) refl refl (rw (no-attributes (wanted (args c)) (omega (arith, f .1)), f .0))
 
@@ -235,7 +240,7 @@ not-half c h =
     (λ n. rw (h .list, n) (neither _ false (right-false (eqb (h .only .virt) (x c 1)) false refl) refl))
 
 p10 : Holds (case 10)
-unfolding argsOf byHandler board unmapping sieve pick admitted parts
+unfolding keyOf argsOf byHandler board unmapping sieve pick admitted parts
 p10 c (inl e) to may h = settled c e to may (Answer.No Reason.NoMapping) refl refl (rw (not-half c h))
 
 module _ (c : Call) (r : world c ≡ normal) where
@@ -257,12 +262,12 @@ module _ (c : Call) (r : world c ≡ normal) where
       )
 
 p11 : Holds (case 11)
-unfolding byHandler standard pick admitted parts
+unfolding keyOf byHandler standard pick admitted parts
 p11 c (inl e) to (inl r) f = settled c e to (from-normal r) (Answer.No Reason.Invalid) refl refl (no-level c r (λ (z : x c 2 ≡ 0). omega (arith, f)))
 p11 c (inr (inl e)) to (inl r) f = settled c e to (from-normal r) (Answer.No Reason.Invalid) refl refl (no-level c r (λ (z : x c 2 ≡ 0). omega (arith, f)))
 
 p12 : Holds (case 12)
-unfolding byHandler standard pick admitted parts
+unfolding keyOf byHandler standard pick admitted parts
 p12 c (inl e) to (inl r) o = settled c e to (from-normal r) (Answer.No Reason.AlreadyOn) refl refl (oneself c r o)
 p12 c (inr (inl e)) to (inl r) o = settled c e to (from-normal r) (Answer.No Reason.AlreadyOn) refl refl (oneself c r o)
 

@@ -14,7 +14,7 @@ use Rattle.ledger.specs.Only.{only}
 use Rattle.ledger.specs.OneHandler.{Attempt, One, answer, accepted, covers, one-handler}
 use Rattle.ledger.specs.OneHandler as OneHandler
 use Rattle.rules.specs.declared.Entered.the-variants as Entered
-use Rattle.judgements.specs.Names.{secure, normal, realm}
+use Rattle.rules.specs.Sizes.{secure, normal, realm}
 use Rattle.judgements.specs.Judge.{calledBy, argsOf, found, oneOf, callers}
 use Rattle.judgements.specs.Grounds.{Calls, Takes}
 use Rattle.judgements.specs.Asked.{key, judged-found}

@@ -1,10 +1,13 @@
 pub mod Runs
 pub mod Named
 pub mod Fit
-pub mod Owners
 pub mod Entries
+pub mod Accepted
+pub mod Owners
+pub mod Started
 pub mod Statements
 pub mod Steps
 pub mod After
+pub mod Printed
 pub mod Theorems
 pub mod Cases

@@ -1,29 +1,48 @@
--- Who is named as a page's owner by a run: what a reader takes to be the last granted transfer of the page, and the set-up line that named it.
+-- What a call asks for, and who is named as a page's owner by a run: what a reader takes to be the last granted transfer of the page, and the set-up line that named it.
 use mathlib.Core.Path.{_≡_}
 use mathlib.Core.List.{List, [], _∷_, _++_}
+use mathlib.Core.Logic.{_⊎_}
 use Prim.Native.Nat.{ℕ, _+_, _≤_, _<_}
+use Rattle.registers.specs.Registers.{saved}
 use Rattle.pages.specs.Window.{runOf}
 use Rattle.pages.specs.Owners.{owner}
 use Rattle.pages.specs.declared.Place.the-variants.{Page}
-use Rattle.calls.specs.Step.{sight}
+use Rattle.judgements.specs.Judge.{calledBy, argsOf}
+use Rattle.calls.specs.Step.{sight, callerOf}
 use Rattle.parsing.specs.declared.Status.the-variants.{Accepted}
 use Rattle.parsing.specs.declared.Frame.the-variants as Frame
 use Rattle.setup.specs.Table.{window}
 use Rattle.frames.specs.Frames.{Machine, stateOf}
 use Rattle.showing.specs.declared.Reply.the-variants.{Told}
-use Rattle.judgements.specs.Asked.{Granted}
+use Rattle.judgements.specs.Asked.{key, Asks, Reached}
 use Rattle.guarantees.specs.Runs.{Event, Events, next, reply, Taken, ran}
 
+-- ---- what a call asks for
+-- In the machine that it meets, the call on this core asks for the transfer of so many pages from an address on to the world `to`.
+abbrev pub AsksTransfer : Machine → ℕ → List ℕ → ℕ → ℕ → ℕ → Type 0
+AsksTransfer m core xs start count to =
+    let s = sight (stateOf m) core in
+    Reached s xs (λ h. Asks (s .inner .caller) (argsOf (calledBy xs) xs) h (key xs) start count to)
+
+-- It asks for the start of a core.
+abbrev pub AsksStart : Machine → ℕ → List ℕ → Type 0
+AsksStart m core xs = Reached (sight (stateOf m) core) xs (λ h. (h ≡ 2) × ((key xs ≡ 0x84000003) ⊎ (key xs ≡ 0xC4000003)))
+
+-- Its caller has 0 in x0 when it is through: the call is granted.
+abbrev pub ToldZero : Machine → ℕ → Event → Type 0
+ToldZero m core e = saved (next m e .saved) core (callerOf (stateOf m) core) 0 ≡ 0
+
 -- ---- what names an owner
--- A granted transfer of a page: the line is a call, it is accepted (its answer is no status), and in the state that it meets
--- it asks for the transfer of a run of pages, this one among them, to the world `to`, and is answered 0.
+-- A granted transfer of a page: the line is a call, it is accepted (its answer is no status), in the machine that it meets it
+-- asks for the transfer of a run of pages, this one among them, to the world `to`, and its x0 is 0 afterwards.
 pub record Transfers (m : Machine) (e : Event) (page to : ℕ) : Type 0 where
   pub core : ℕ
   pub is-call : e .0 ≡ Frame.Call core
   pub accepted : Taken (reply m e)
   pub start : ℕ
   pub count : ℕ
-  pub granted : Granted (sight (stateOf m) core) (e .1) start count to
+  pub asks : AsksTransfer m core (e .1) start count to
+  pub granted : ToldZero m core e
   pub lowest : ℕ
   pub lies : runOf (window (m .setup)) start count ≡ Page lowest
   pub low : lowest ≤ page

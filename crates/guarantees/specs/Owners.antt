@@ -1,26 +1,20 @@
 -- The owner of a page after a run is the one whom the run names, and nobody else is named.
-use mathlib.Core.Path.{_≡_, refl, sym, ap, subst, _∙_}
-use mathlib.Core.Bool.{Bool, true, false, _&&_}
+use mathlib.Core.Path.{_≡_, refl, sym, ap, _∙_}
+use mathlib.Core.Bool.{true, false}
 use mathlib.Core.List.{List, [], _∷_, _++_}
-use mathlib.Core.Logic.{_⊎_, inl, inr, ⊎-elim}
 use Prim.Native.Nat.{ℕ, _+_, _≤_, _<_}
 use native.Mathlib.Omega.{arith}
 use lib.Dec.{leb, ltb}
 use borrow.Author.Tests.{leb-true, leb-false, ltb-true, ltb-false}
 use Rattle.rules.specs.Choice.{either, yes-or-no}
-use Rattle.cores.specs.Power.{isOn, isPending}
-use Rattle.cores.specs.Cores.{power}
-use Rattle.pages.specs.Window.{runOf}
-use Rattle.pages.specs.Owners.{owner, unowned-owner}
+use Rattle.pages.specs.Owners.{owner}
 use Rattle.pages.specs.Named.{isNamed, free-at}
-use Rattle.pages.specs.Naming.{naming, Granted, naming-granted, granted-inside, granted-outside}
+use Rattle.pages.specs.Naming.{naming, naming-granted, granted-inside, granted-outside}
 use Rattle.pages.specs.declared.Place.the-variants.{Page}
 use Rattle.rules.specs.declared.Entered.the-variants as Entered
 use Rattle.judgements.specs.declared.Deed.{Deed}
 use Rattle.judgements.specs.declared.Deed.the-variants.{Nothing, Move, Map, Unmap, Start, GoOff, HandOver, Finish}
-use Rattle.calls.specs.Step.{State, sight, called, applied, arrivedIn}
 use Rattle.calls.specs.Effects.{deedIn, after, Carries, owners-spared, moved-inside, moved-outside}
-use Rattle.calls.specs.Right.{Right}
 use Rattle.parsing.specs.declared.Status.{Status}
 use Rattle.parsing.specs.declared.Status.the-variants.{Accepted}
 use Rattle.parsing.specs.declared.Frame.{Frame}
@@ -32,15 +26,15 @@ use Rattle.frames.specs.Stays.{framed-by, shown-not-told, settled, call-ends}
 use Rattle.showing.specs.declared.Reply.{Reply}
 use Rattle.showing.specs.declared.Reply.the-variants.{Told, Called}
 use Rattle.guarantees.specs.Runs.{Event, Events, byte, next, reply, ran, ran-two, always}
-use Rattle.judgements.specs.Asked.{granted-moves, moves-granted}
-use Rattle.guarantees.specs.Named.{Transfers, Names, Unmoved, Unnamed, LastTransfer, NamedBy, Named, by-transfer, by-set-up, as-before}
+use Rattle.guarantees.specs.Accepted.{transfer-moves, moves-granted}
+use Rattle.guarantees.specs.Named.{Transfers, Names, Unmoved, Unnamed, Named, by-transfer, by-set-up, as-before}
 use Rattle.guarantees.specs.Fit.{Fit, fit-next}
 
 -- ---- one line
 -- what is done for a granted transfer
-moves-deed : {m : Machine} {e : Event} {page to : ℕ} (t : Transfers m e page to) → deedIn (stateOf m) (t .core) (e .1) ≡ Move (t .lowest) (t .count) to
-moves-deed {m} {e} {to = to} t =
-    let g = granted-moves (sight (stateOf m) (t .core)) (e .1) (t .start) (t .count) to (t .granted) in
+moves-deed : {m : Machine} → Fit m → {e : Event} {page to : ℕ} (t : Transfers m e page to) → deedIn (stateOf m) (t .core) (e .1) ≡ Move (t .lowest) (t .count) to
+moves-deed {m} fit {e} {to = to} t =
+    let g = transfer-moves m fit e (t .core) (t .is-call) (t .accepted) (t .start) (t .count) to (t .asks) (t .granted) in
     let k : Page (g .first) ≡ Page (t .lowest) = sym (g .lies) ∙ t .lies in
     let f : g .first ≡ t .lowest = cc in
     rw (← f) (g .moves)
@@ -51,15 +45,15 @@ data Gives (m : Machine) (e : Event) (page to : ℕ) : Type 0 where
   names : Names m e page to → Gives m e page to
 
 -- two that stand in one line name one world
-gives-one : {m : Machine} {e : Event} {page to other : ℕ} → Gives m e page to → Gives m e page other → to ≡ other
-gives-one {m} {e} {to = to} {other = other} (moves a) (moves b) =
+gives-one : {m : Machine} → Fit m → {e : Event} {page to other : ℕ} → Gives m e page to → Gives m e page other → to ≡ other
+gives-one {m} fit {e} {to = to} {other = other} (moves a) (moves b) =
     let c : Frame.Call (a .core) ≡ Frame.Call (b .core) = sym (a .is-call) ∙ b .is-call in
     let d : a .core ≡ b .core = cc in
-    let g : Move (a .lowest) (a .count) to ≡ Move (b .lowest) (b .count) other = sym (moves-deed a) ∙ rw d (moves-deed b) in
+    let g : Move (a .lowest) (a .count) to ≡ Move (b .lowest) (b .count) other = sym (moves-deed fit a) ∙ rw d (moves-deed fit b) in
     cc
-gives-one (moves a) (names b) = omega (arith, ap byte (sym (a .is-call) ∙ b .is-name))
-gives-one (names a) (moves b) = omega (arith, ap byte (sym (a .is-name) ∙ b .is-call))
-gives-one (names a) (names b) = let c = sym (a .is-name) ∙ b .is-name in cc
+gives-one fit (moves a) (names b) = omega (arith, ap byte (sym (a .is-call) ∙ b .is-name))
+gives-one fit (names a) (moves b) = omega (arith, ap byte (sym (a .is-name) ∙ b .is-call))
+gives-one fit (names a) (names b) = let c = sym (a .is-name) ∙ b .is-name in cc
 
 -- what a line makes of a page's owner
 data Outcome (m : Machine) (e : Event) (page : ℕ) (o : Machine) : Type 0 where
@@ -119,9 +113,9 @@ module _ (m : Machine) (fit : Fit m) (e : Event) (page : ℕ) where
   call-outcome core a is ok o w =
       transfer-or-not (deedIn (stateOf m) core (e .1))
       (λ lowest count to d.
-      let v = moves-granted (sight (stateOf m) core) (e .1) lowest count to d in
+      let v = moves-granted m fit e core is ok lowest count to d in
       inside-or-not lowest count page
-      (λ h l. gave to (moves (record { core = core; is-call = is; accepted = ok; start = v .start; count = count; granted = v .granted; lowest = lowest; lies = v .lies; low = h; high = l }))
+      (λ h l. gave to (moves (record { core = core; is-call = is; accepted = ok; start = v .start; count = count; asks = v .asks; granted = v .told; lowest = lowest; lies = v .lies; low = h; high = l }))
       (rw w (moved-inside (stateOf m) core (e .1) lowest count to d page (fit .right a .whole .owners-whole) h l .1)))
       (λ n. kept (λ u. elsewhere u lowest count to d n) (rw w (moved-outside (stateOf m) core (e .1) lowest count to d page n))))
       (λ n. kept (λ u. still u n) (rw w (ap (λ (t : List ℕ). owner t page) (owners-spared (stateOf m) core (e .1) n))))
@@ -133,7 +127,7 @@ module _ (m : Machine) (fit : Fit m) (e : Event) (page : ℕ) where
       elsewhere u lowest count to d n (names t) = omega (arith, ap byte (sym (t .is-name) ∙ is))
       elsewhere u lowest count to d n (moves t) =
           let c : t .core ≡ core = same-core (t .core) (t .is-call) in
-          let g : Move (t .lowest) (t .count) u ≡ Move lowest count to = sym (rw c at (moves-deed t)) ∙ d in
+          let g : Move (t .lowest) (t .count) u ≡ Move lowest count to = sym (rw c at (moves-deed fit t)) ∙ d in
           let x : t .lowest ≡ lowest = cc in
           let y : t .count ≡ count = cc in
           n (omega (arith, t .low)) (omega (arith, t .high))
@@ -142,7 +136,7 @@ module _ (m : Machine) (fit : Fit m) (e : Event) (page : ℕ) where
       still u n (names t) = omega (arith, ap byte (sym (t .is-name) ∙ is))
       still u n (moves t) =
           let c : t .core ≡ core = same-core (t .core) (t .is-call) in
-          let g : deedIn (stateOf m) core (e .1) ≡ Move (t .lowest) (t .count) u = rw c at (moves-deed t) in
+          let g : deedIn (stateOf m) core (e .1) ≡ Move (t .lowest) (t .count) u = rw c at (moves-deed fit t) in
           n (rw g tt)
 
   -- any line
@@ -168,7 +162,7 @@ module _ (m : Machine) (fit : Fit m) (e : Event) (page : ℕ) where
   gives-is to g = after-it outcome
     where
       after-it : Outcome m e page (next m e) → owner (next m e .owners) page ≡ to
-      after-it (gave u h o) = o ∙ gives-one h g
+      after-it (gave u h o) = o ∙ gives-one fit h g
       after-it (kept n o) = absurd (n to g)
 
   -- and without a name the owner stays

@@ -1,34 +1,37 @@
 -- What the monitor guarantees, in plain statements: of the machine after any run, and of each line by itself.
 use mathlib.Core.Path.{_≡_}
-use mathlib.Core.Bool.{Bool, true, false}
+use mathlib.Core.Bool.{true, false}
 use mathlib.Core.List.{List, [], _∷_, _++_}
 use mathlib.Core.Option.{some}
-use Prim.Native.Nat.{ℕ, _+_, _-_, _^_, _≤_, _<_}
+use Prim.Native.Nat.{ℕ, _+_, _-_, _≤_, _<_}
 use lib.ListN.{length, getD}
 use Rattle.rules.specs.Choice.{pick}
 use Rattle.rules.specs.declared.Reason.{Reason}
 use Rattle.ledger.specs.Ledger.{handler}
-use Rattle.identifiers.specs.Identifier.{admitted}
+use Rattle.identifiers.specs.Identifier.{bits, admitted, argument}
 use Rattle.registers.specs.Registers.{saved, saving}
-use Rattle.cores.specs.Power.{turnOf, put, on, isOn, isPending}
-use Rattle.cores.specs.Cores.{power, turn}
+use Rattle.registers.specs.declared.Shown.{Shown}
+use Rattle.cores.specs.Power.{powerOf, put, off, pending, on, isOn, isPending}
+use Rattle.cores.specs.Cores.{power, turn, onCount}
+use Rattle.pages.specs.Window.{runOf}
 use Rattle.pages.specs.Owners.{owner, countOwned}
 use Rattle.pages.specs.declared.Window.{Window}
+use Rattle.pages.specs.declared.Place.the-variants.{Page}
 use Rattle.mapping.specs.Lists.{held}
 use Rattle.mapping.specs.Mapping.{holds, deciding, leadOf}
-use Rattle.mapping.specs.Entries.{Every}
+use Rattle.mapping.specs.Entries.{Every, Inserted, Removed}
 use Rattle.mapping.specs.Sound.{covers, Formed}
 use Rattle.mapping.specs.Once.{coverings, countCovered}
 use Rattle.ranges.specs.declared.Mapping.{Mapping}
 use Rattle.mapping.specs.declared.Lead.the-variants.{To}
-use Rattle.judgements.specs.Names.{normal}
+use Rattle.rules.specs.Sizes.{normal}
 use Rattle.judgements.specs.Judge.{calledBy, argsOf, found}
 use Rattle.judgements.specs.Grounds.{Calls}
 use Rattle.judgements.specs.declared.Answer.the-variants.{No}
-use Rattle.judgements.specs.declared.Deed.the-variants.{HandOver, Finish}
 use Rattle.rules.specs.Reasons.{minus}
-use Rattle.calls.specs.Step.{sight, callerOf, judgedIn, startNumbers}
-use Rattle.calls.specs.Effects.{deedIn, answerIn, resultsIn, Receives}
+use Rattle.answers.specs.Answers.{negative}
+use Rattle.calls.specs.Step.{sight, judgedIn}
+use Rattle.calls.specs.Effects.{answerIn, resultsIn, returned}
 use Rattle.parsing.specs.declared.Status.{Status}
 use Rattle.parsing.specs.declared.Status.the-variants.{Accepted}
 use Rattle.parsing.specs.declared.Frame.{Frame}
@@ -36,14 +39,14 @@ use Rattle.parsing.specs.declared.Frame.the-variants as Frame
 use Rattle.text.specs.Text.{statusText, callText}
 use Rattle.setup.specs.Table.{ready, ended, cores, over}
 use Rattle.setup.specs.Table as Table
-use Rattle.calling.specs.Calling.{siteOf, shownIn}
+use Rattle.calling.specs.Calling.{siteOf}
 use Rattle.frames.specs.Frames.{Machine, machine, first, stateOf}
 use Rattle.showing.specs.declared.Reply.{Reply}
-use Rattle.showing.specs.declared.Reply.the-variants.{Told}
+use Rattle.showing.specs.declared.Reply.the-variants.{Told, Called}
 use Rattle.answering.specs.Answer.{textOf}
 use Rattle.guarantees.specs.Runs.{Event, Events, Taken}
 use Rattle.judgements.specs.Asked.{key, HandsTo, Finishes, Reached}
-use Rattle.guarantees.specs.Named.{Named}
+use Rattle.guarantees.specs.Named.{AsksTransfer, AsksStart, Named}
 
 abbrev pub window : Machine → Window
 window m = Table.window (m .setup)
@@ -107,59 +110,160 @@ pub data Shape : List ℕ → Type 0 where
   status : (why : Status) → Shape (statusText why)
   call : (core world x0 x1 x2 x3 : ℕ) → Shape (callText core world x0 x1 x2 x3)
 
--- ---- of one line, met by a machine m: what it leaves, and how it is answered
--- the machine after a refused call: the caller has its eight numbers back, with the refusal in x0, and set-up has ended
-abbrev pub denied : Machine → ℕ → List ℕ → Reason → Machine
-denied m core xs r =
-    let caller = callerOf (stateOf m) core in
-    machine (over (m .setup)) (m .named) (m .ledger) (m .owners)
-    (saving (saving (m .saved) core caller xs) core caller ((2 ^ 64 - minus r) ∷ []))
-    (m .powers) (m .turns) (m .lists)
+-- ---- of one line, met by a machine m: what it leaves in the machine `last`, and how it is answered
+-- the world that runs on a core
+abbrev pub running : Machine → ℕ → ℕ
+running m core = turn (m .turns) core .world
 
+-- number j of a core and world: x0 to x7, and in ninth place its start address
+abbrev pub number : Machine → ℕ → ℕ → ℕ → ℕ
+number m core world j = saved (m .saved) core world j
+
+-- a run of pages inside the window is another owner's now, each page of it and no other
+pub record Given (m last : Machine) (start count to : ℕ) : Type 0 where
+  pub first : ℕ
+  pub lies : runOf (window m) start count ≡ Page first
+  pub inside : (page : ℕ) → first ≤ page → page < first + count → ownerIn last page ≡ to
+  pub outside : (page : ℕ) → (first ≤ page → page < first + count → ⊥) → ownerIn last page ≡ ownerIn m page
+
+-- ---- a call on a core with its numbers x0 to x7
+module _ (m : Machine) (core : ℕ) (xs : List ℕ) where
+  -- who calls, and an argument as the call reads it
+  abbrev pub caller : ℕ
+  caller = running m core
+
+  abbrev pub arg : ℕ → ℕ
+  arg i = argument (calledBy xs) (getD xs i 0)
+
+  -- what the call is: it passes the test on bits 23 to 16, reaches this handler and has this identifier
+  abbrev pub Is : ℕ → ℕ → Type 0
+  Is h id = Reached (sight (stateOf m) core) xs (λ n. (n ≡ h) × (key xs ≡ id))
+
+  -- it hands the core over to a world
+  abbrev pub HandsOver : ℕ → Type 0
+  HandsOver to = (caller ≡ normal) × Reached (sight (stateOf m) core) xs (λ h. HandsTo h (key xs) to)
+
+  -- it gives the core back: Secure's finish, or Realm's
+  abbrev pub GivesBack : Type 0
+  GivesBack = Reached (sight (stateOf m) core) xs (λ h. Finishes h (key xs) caller)
+
+  -- it switches its core off
+  abbrev pub SwitchesOff : Type 0
+  SwitchesOff = (caller ≡ normal) × Is 2 0x84000002
+
+  -- the machine after a refusal with -n: the caller has its eight numbers back, with the refusal in x0, and set-up has ended
+  abbrev pub denied : ℕ → Machine
+  denied n =
+      machine (over (m .setup)) (m .named) (m .ledger) (m .owners)
+      (saving (saving (m .saved) core caller xs) core caller (negative (calledBy xs) n ∷ []))
+      (m .powers) (m .turns) (m .lists)
+
+  module _ (last : Machine) where
+    -- what the caller has in x0 to x7 afterwards
+    abbrev pub x : ℕ → ℕ
+    x j = number last core caller j
+
+    -- x0 to x3 of a world on the core
+    abbrev pub shown : ℕ → Shown
+    shown world = record { x0 = number last core world 0; x1 = number last core world 1; x2 = number last core world 2; x3 = number last core world 3 }
+
+    pub record HeededCall (answer : Reply) : Type 0 where
+      -- Where the core is then ON, the answer is the core, the world that runs there and that world's x0 to x3,
+      pub shown-on : isOn (power (last .powers) core) ≡ true → answer ≡ Called core (running last core) (shown (running last core))
+      -- and where it is not, the core, 255 and Normal's.
+      pub shown-off : isOn (power (last .powers) core) ≡ false → answer ≡ Called core 255 (shown normal)
+      -- Set-up has ended.
+      pub set-up-ends : ended (last .setup) ≡ true
+      -- ---- who judges it
+      -- A fast call with one of bits 23 to 16 set is refused with -1, whatever its owner.
+      pub reserved : bits 31 31 (getD xs 0 0) ≡ 1 → (bits 23 16 (getD xs 0 0) ≡ 0 → ⊥) → last ≡ denied 1
+      -- A call that passes that test is judged by the handler that the ledger has for its type and owner, or by none.
+      pub dispatched : admitted (calledBy xs) ≡ true
+          → judgedIn (stateOf m) core xs ≡ found (sight (stateOf m) core .inner) (argsOf (calledBy xs) xs) (key xs) (handler (m .ledger) (calledBy xs .fast) (calledBy xs .owner))
+      -- A call that is refused for a reason leaves the machine of that refusal.
+      pub refused : (r : Reason) → answerIn (stateOf m) core xs ≡ No r → last ≡ denied (minus r)
+      -- ---- what its caller finds
+      -- The results that its answer lists, from x0 on; behind them the frame's numbers; its start address stays.
+      pub results : (j : ℕ) → j < length (resultsIn (stateOf m) core xs) → x j ≡ getD (resultsIn (stateOf m) core xs) j 0
+      pub unlisted : (j : ℕ) → length (resultsIn (stateOf m) core xs) ≤ j → j < 8 → x j ≡ getD xs j 0
+      pub start-stays : x 8 ≡ number m core caller 8
+      -- After a hand-over, a finish or OFF x0 to x7 are the frame's.
+      pub hand-over-silent : (to j : ℕ) → HandsOver to → j < 8 → x j ≡ getD xs j 0
+      pub finish-silent : (j : ℕ) → GivesBack → j < 8 → x j ≡ getD xs j 0
+      pub off-silent : (j : ℕ) → SwitchesOff → j < 8 → x j ≡ getD xs j 0
+      -- After any call x1 to x7 are the frame's, but for x1 and x2 of a granted C2000022.
+      pub not-written : (j : ℕ) → 0 < j → j < 8 → (Is 1 0xC2000022 → x 0 ≡ 0 → j ≤ 2 → ⊥) → x j ≡ getD xs j 0
+      -- These are where its address leads, by the caller's list.
+      pub where-told : Is 1 0xC2000022 → x 0 ≡ 0 → leadOf (mapped m caller) (arg 1) ≡ To (x 1) (x 2)
+      -- C2000030 is answered with the number of cores that are ON.
+      pub count-told : Is 1 0xC2000030 → x 0 ≡ onCount (m .powers)
+      -- ---- what others find
+      -- No number of another core changes.
+      pub other-cores : (c w j : ℕ) → (core ≡ c → ⊥) → number last c w j ≡ number m c w j
+      -- Except for a hand-over or a finish, no number of another world changes, and the same world runs.
+      pub other-worlds : (w j : ℕ) → (caller ≡ w → ⊥) → ((to : ℕ) → HandsOver to → ⊥) → (GivesBack → ⊥) → number last core w j ≡ number m core w j
+      pub same-runs : ((to : ℕ) → HandsOver to → ⊥) → (GivesBack → ⊥) → last .turns ≡ m .turns
+      -- After a hand-over the receiver runs; it has the frame's x0 to x7 and its own start address, and no third world's numbers change.
+      pub handed-runs : (to : ℕ) → HandsOver to → running last core ≡ to
+      pub handed : (to j : ℕ) → HandsOver to → j < 8 → number last core to j ≡ getD xs j 0
+      pub handed-rest : (to j : ℕ) → HandsOver to → 8 ≤ j → number last core to j ≡ number m core to j
+      pub handed-others : (to w j : ℕ) → HandsOver to → (caller ≡ w → ⊥) → (to ≡ w → ⊥) → number last core w j ≡ number m core w j
+      -- After a finish Normal runs; its x0 and on are the finisher's x1 and on, as many as that world returns, its other numbers stay, and so do a third world's.
+      pub finished-runs : GivesBack → running last core ≡ normal
+      pub finished : (j : ℕ) → GivesBack → j < returned caller → number last core normal j ≡ getD xs (1 + j) 0
+      pub finished-rest : (j : ℕ) → GivesBack → returned caller ≤ j → number last core normal j ≡ number m core normal j
+      pub finished-others : (w j : ℕ) → GivesBack → (caller ≡ w → ⊥) → (normal ≡ w → ⊥) → number last core w j ≡ number m core w j
+      -- ---- what is done, by what was asked and is answered
+      -- A transfer that is answered 0 gives the taker its whole run. No other call changes an owner.
+      pub move-done : (start count to : ℕ) → AsksTransfer m core xs start count to → x 0 ≡ 0 → Given m last start count to
+      pub owners-stay : ((start count to : ℕ) → AsksTransfer m core xs start count to → x 0 ≡ 0 → ⊥) → last .owners ≡ m .owners
+      -- A map of some size that is answered 0 puts its mapping into the caller's list, which else is as it was.
+      pub map-done : Is 1 0xC2000020 → x 0 ≡ 0 → (arg 3 ≡ 0 → ⊥)
+          → Inserted (record { virt = arg 2; phys = arg 1; size = arg 3; attr = arg 4 }) (mapped m caller) (mapped last caller)
+      -- An unmap that is answered 0 takes its mapping out, and nothing else.
+      pub unmap-done : Is 1 0xC2000021 → x 0 ≡ 0 → Removed (arg 1) (arg 2) (mapped m caller) (mapped last caller)
+      -- No other call changes the caller's list, and none another world's.
+      pub lists-stay : (Is 1 0xC2000020 → x 0 ≡ 0 → (arg 3 ≡ 0 → ⊥) → ⊥) → (Is 1 0xC2000021 → x 0 ≡ 0 → ⊥) → last .lists ≡ m .lists
+      pub other-lists : (w : ℕ) → (w ≡ caller → ⊥) → mapped last w ≡ mapped m w
+      -- A start that is answered 0 leaves core x1 pending, with x2 and x3 as they were read.
+      pub start-done : AsksStart m core xs → x 0 ≡ 0 → power (last .powers) (arg 1) ≡ powerOf pending (arg 2) (arg 3)
+      -- A core that is switched off is OFF. No other call changes a core's power.
+      pub off-done : SwitchesOff → power (last .powers) core ≡ put (power (m .powers) core) off
+      pub power-stays : (c : ℕ) → (AsksStart m core xs → x 0 ≡ 0 → c ≡ arg 1 → ⊥) → (SwitchesOff → c ≡ core → ⊥) → power (last .powers) c ≡ power (m .powers) c
+
+-- ---- an arrival that is accepted
+pub record HeededArrival (m : Machine) (core : ℕ) (last : Machine) : Type 0 where
+  -- The core was pending and is ON, and Normal runs there.
+  pub was-pending : isPending (power (m .powers) core) ≡ true
+  pub is-on : power (last .powers) core ≡ put (power (m .powers) core) on
+  pub in-normal : running last core ≡ normal
+  -- Normal's x0 is the context, x1 to x7 are zero, and in ninth place stands the start address.
+  pub context : number last core normal 0 ≡ power (m .powers) core .context
+  pub zeros : (j : ℕ) → 0 < j → j < 8 → number last core normal j ≡ 0
+  pub start : number last core normal 8 ≡ power (m .powers) core .start
+  -- No other number changes, and no other core's power.
+  pub other-numbers : (c w j : ℕ) → (core ≡ c → normal ≡ w → ⊥) → number last c w j ≡ number m c w j
+  pub other-power : (c : ℕ) → (c ≡ core → ⊥) → power (last .powers) c ≡ power (m .powers) c
+  -- Nor do owners and mappings.
+  pub owners-stay : last .owners ≡ m .owners
+  pub lists-stay : last .lists ≡ m .lists
+
+-- ---- a line of any other kind: no number, no power, nothing that runs and no mapping changes
+pub record HeededOther (m last : Machine) : Type 0 where
+  pub numbers-stay : last .saved ≡ m .saved
+  pub power-stays : last .powers ≡ m .powers
+  pub turns-stay : last .turns ≡ m .turns
+  pub lists-stay : last .lists ≡ m .lists
+
+-- ---- any line
 pub record Heeded (m : Machine) (e : Event) (last : Machine) (answer : Reply) : Type 0 where
   -- A refused frame changes nothing.
   pub refused-frame : (why : Status) → answer ≡ Told why → (why ≡ Accepted → ⊥) → last ≡ m
-  -- A call that is not refused as a frame shows its core, the world that then runs there or 255 where the core is OFF, and that world's x0 to x3, or Normal's.
-  pub call-answer : (core : ℕ) → e .0 ≡ Frame.Call core → Taken answer → answer ≡ shownIn core (stateOf last)
-  -- No call is told that it is accepted, and no other line is answered as a call.
+  -- A call that is not refused as a frame is heeded as above; it is never told a plain acceptance.
+  pub call : (core : ℕ) → e .0 ≡ Frame.Call core → length (e .1) ≡ 8 → Taken answer → HeededCall m core (e .1) last answer
   pub call-told : (core : ℕ) → e .0 ≡ Frame.Call core → answer ≡ Told Accepted → ⊥
+  -- So is an accepted arrival, and any other line; no line but a call is answered as one, or ends set-up.
+  pub arrival : (core : ℕ) → e .0 ≡ Frame.Arrival core → answer ≡ Told Accepted → HeededArrival m core last
+  pub other : ((core : ℕ) → e .0 ≡ Frame.Call core → ⊥) → ((core : ℕ) → e .0 ≡ Frame.Arrival core → ⊥) → HeededOther m last
   pub other-told : ((core : ℕ) → e .0 ≡ Frame.Call core → ⊥) → Taken answer → ⊥
-  -- A call that is not refused as a frame ends set-up; nothing else does.
-  pub set-up-ends : Taken answer → ended (last .setup) ≡ true
   pub set-up-goes-on : (why : Status) → answer ≡ Told why → ended (last .setup) ≡ ended (m .setup)
-  -- A refused call leaves the machine in which the caller has its eight numbers and set-up has ended, but for the refusal in x0.
-  pub refused-call : (core : ℕ) (r : Reason) → e .0 ≡ Frame.Call core → Taken answer → answerIn (stateOf m) core (e .1) ≡ No r → last ≡ denied m core (e .1) r
-  -- A call that passes the test on bits 23 to 16 is judged by the handler that the ledger has for its type and owner, or by none.
-  pub dispatched : (core : ℕ) → e .0 ≡ Frame.Call core → Taken answer → admitted (calledBy (e .1)) ≡ true
-      → judgedIn (stateOf m) core (e .1) ≡ found (sight (stateOf m) core .inner) (argsOf (calledBy (e .1)) (e .1)) (key (e .1)) (handler (m .ledger) (calledBy (e .1) .fast) (calledBy (e .1) .owner))
-  -- A call changes no number saved for another core.
-  pub other-cores : (core c u j : ℕ) → e .0 ≡ Frame.Call core → (core ≡ c → ⊥) → saved (last .saved) c u j ≡ saved (m .saved) c u j
-  -- Except for a hand-over or its finish, it changes no number saved for another world.
-  pub other-worlds : (core c u j : ℕ) → e .0 ≡ Frame.Call core → (callerOf (stateOf m) core ≡ u → ⊥) → ((to : ℕ) → deedIn (stateOf m) core (e .1) ≡ HandOver to → ⊥) → (deedIn (stateOf m) core (e .1) ≡ Finish → ⊥) → saved (last .saved) c u j ≡ saved (m .saved) c u j
-  -- Those two change the numbers of no third world: only the caller's, and the receiver's, who is Normal for a finish.
-  pub no-receiver : (core u j : ℕ) → e .0 ≡ Frame.Call core → (callerOf (stateOf m) core ≡ u → ⊥) → (Receives (deedIn (stateOf m) core (e .1)) u → ⊥) → saved (last .saved) core u j ≡ saved (m .saved) core u j
-  -- There is a hand-over where Normal asks for it, by handler 3 or 2, and nowhere else; the receiver then runs, with the hand-over open, and it gets x0 to x7, while its other number stays.
-  pub hand-over : (core to : ℕ) → deedIn (stateOf m) core (e .1) ≡ HandOver to → (callerOf (stateOf m) core ≡ normal) × Reached (sight (stateOf m) core) (e .1) (λ h. HandsTo h (key (e .1)) to)
-  pub hand-over-done : (core to : ℕ) → e .0 ≡ Frame.Call core → Taken answer → admitted (calledBy (e .1)) ≡ true → callerOf (stateOf m) core ≡ normal
-      → Reached (sight (stateOf m) core) (e .1) (λ h. HandsTo h (key (e .1)) to) → deedIn (stateOf m) core (e .1) ≡ HandOver to
-  pub handed-runs : (core to : ℕ) → e .0 ≡ Frame.Call core → Taken answer → deedIn (stateOf m) core (e .1) ≡ HandOver to → turn (last .turns) core ≡ turnOf to true
-  pub handed : (core to j : ℕ) → e .0 ≡ Frame.Call core → Taken answer → length (e .1) ≡ 8 → deedIn (stateOf m) core (e .1) ≡ HandOver to → j < 8 → saved (last .saved) core to j ≡ getD (e .1) j 0
-  pub handed-rest : (core to j : ℕ) → e .0 ≡ Frame.Call core → Taken answer → length (e .1) ≡ 8 → deedIn (stateOf m) core (e .1) ≡ HandOver to → 8 ≤ j → saved (last .saved) core to j ≡ saved (m .saved) core to j
-  -- There is a finish where Secure or Realm asks for it and a hand-over is open, and nowhere else; Normal then runs, with none open, and it gets the finisher's x1 to x4 as x0 to x3, while its other numbers stay.
-  pub finish : (core : ℕ) → deedIn (stateOf m) core (e .1) ≡ Finish → Reached (sight (stateOf m) core) (e .1) (λ h. Finishes h (key (e .1)) (callerOf (stateOf m) core)) × (turn (m .turns) core .is_open ≡ true)
-  pub finish-done : (core : ℕ) → e .0 ≡ Frame.Call core → Taken answer → admitted (calledBy (e .1)) ≡ true → turn (m .turns) core .is_open ≡ true
-      → Reached (sight (stateOf m) core) (e .1) (λ h. Finishes h (key (e .1)) (callerOf (stateOf m) core)) → deedIn (stateOf m) core (e .1) ≡ Finish
-  pub finished-runs : (core : ℕ) → e .0 ≡ Frame.Call core → Taken answer → deedIn (stateOf m) core (e .1) ≡ Finish → turn (last .turns) core ≡ turnOf normal false
-  pub finished : (core j : ℕ) → e .0 ≡ Frame.Call core → Taken answer → length (e .1) ≡ 8 → deedIn (stateOf m) core (e .1) ≡ Finish → j < 4 → saved (last .saved) core normal j ≡ getD (e .1) (1 + j) 0
-  pub finished-rest : (core j : ℕ) → e .0 ≡ Frame.Call core → Taken answer → deedIn (stateOf m) core (e .1) ≡ Finish → 4 ≤ j → saved (last .saved) core normal j ≡ saved (m .saved) core normal j
-  -- The caller has the answer's results in x0 and on, and the frame's numbers behind them; its start address stays.
-  pub caller-results : (core j : ℕ) → e .0 ≡ Frame.Call core → Taken answer → j < length (resultsIn (stateOf m) core (e .1)) → saved (last .saved) core (callerOf (stateOf m) core) j ≡ getD (resultsIn (stateOf m) core (e .1)) j 0
-  pub caller-numbers : (core j : ℕ) → e .0 ≡ Frame.Call core → Taken answer → length (e .1) ≡ 8 → length (resultsIn (stateOf m) core (e .1)) ≤ j → j < 8 → saved (last .saved) core (callerOf (stateOf m) core) j ≡ getD (e .1) j 0
-  pub caller-rest : (core j : ℕ) → e .0 ≡ Frame.Call core → length (e .1) ≡ 8 → 8 ≤ j → saved (last .saved) core (callerOf (stateOf m) core) j ≡ saved (m .saved) core (callerOf (stateOf m) core) j
-  -- An accepted arrival leaves the core ON in Normal, with nothing open, its context in x0, zero in x1 to x7, and its start address.
-  pub arrived : (core j : ℕ) → e .0 ≡ Frame.Arrival core → answer ≡ Told Accepted → j < 9
-      → (power (last .powers) core ≡ put (power (m .powers) core) on) × ((turn (last .turns) core ≡ turnOf normal false) × (saved (last .saved) core normal j ≡ getD (startNumbers (power (m .powers) core)) j 0))
-  -- An arrival changes no number but Normal's on its core.
-  pub arrival-saved : (core c u j : ℕ) → e .0 ≡ Frame.Arrival core → (core ≡ c → normal ≡ u → ⊥) → saved (last .saved) c u j ≡ saved (m .saved) c u j
-  -- No other line changes a saved number.
-  pub other-saved : ((core : ℕ) → e .0 ≡ Frame.Call core → ⊥) → ((core : ℕ) → e .0 ≡ Frame.Arrival core → ⊥) → last .saved ≡ m .saved

@@ -1,124 +1,50 @@
 -- One line: why it leaves what it leaves.
 use mathlib.Core.Path.{_≡_, refl, sym, ap, _∙_}
 use mathlib.Core.Bool.{true, false}
-use mathlib.Core.List.{List, [], _∷_}
-use mathlib.Core.Logic.{⊎-elim}
-use Prim.Native.Nat.{ℕ, _≤_, _<_}
+use mathlib.Core.List.{List}
+use Prim.Native.Nat.{ℕ, zero, suc, _%_, _^_, _<_}
 use native.Mathlib.Omega.{arith}
-use lib.ListN.{getD}
-use Rattle.registers.specs.Registers.{saved}
+use lib.Dec.{leb}
+use lib.ListN.{length, getD}
+use borrow.Author.Tests.{leb-true, leb-false, eq-eqb, ne-eqb}
+use Rattle.rules.specs.Choice.{pick-yes, pick-no, either}
+use Rattle.rules.specs.Reasons.{minus}
 use Rattle.rules.specs.declared.Reason.{Reason}
-use Rattle.cores.specs.Power.{turnOf, put, on, isOn, isPending}
-use Rattle.cores.specs.Cores.{power, turn}
-use Rattle.judgements.specs.Names.{secure, normal, realm}
-use Rattle.judgements.specs.Grounds.{Takes}
+use Rattle.rules.specs.declared.Reason.the-variants as Reason
+use Rattle.identifiers.specs.Identifier.{bits, identifierOf, parts, admitted}
+use Rattle.registers.specs.Registers.{Whole, saved, shownOf}
+use Rattle.cores.specs.Power.{powerOf, on, isPending}
+use Rattle.cores.specs.Cores.{power}
+use Rattle.ranges.specs.declared.Mapping.{Mapping}
+use Rattle.mapping.specs.Lists.{held}
+use Rattle.mapping.specs.Sound.{granted-formed}
+use Rattle.rules.specs.Sizes.{normal}
+use Rattle.judgements.specs.Judge.{calledBy, argsOf, wanted}
+use Rattle.judgements.specs.Asked.{Finishes, by-secure, by-realm, called-for, leads-asked, judged-reserved}
+use Rattle.judgements.specs.Decided.{asked-map, asked-unmap, asked-start, asked-off, asked-hand-over, asked-finish, asked-where, asked-count}
+use Rattle.judgements.specs.Grounds.{grounded}
 use Rattle.judgements.specs.declared.Answer.the-variants.{No}
 use Rattle.judgements.specs.declared.Deed.{Deed}
 use Rattle.judgements.specs.declared.Deed.the-variants.{Nothing, Move, Map, Unmap, Start, GoOff, HandOver, Finish}
-use Rattle.calls.specs.Step.{State, sight, callerOf, called, arrivedIn, startNumbers}
-use Rattle.calls.specs.Effects.{after, deedIn, answerIn, Receives, refused, saved-spared, turn-handed, turn-finished, own-results, own-frame, own-past, hands, handed-numbers, handed-rest, finishes, finished-numbers, finished-rest, arrival-saved, arrived-numbers, arrived-power, arrived-turn}
-use Rattle.calls.specs.Right.{Right}
-use Rattle.parsing.specs.declared.Status.{Status}
+use Rattle.judgements.specs.declared.Judged.{Judged}
+use Rattle.calls.specs.Step.{State, sight, callerOf, startNumbers, arrivedIn}
+use Rattle.calls.specs.Effects as Effects
+use Rattle.calls.specs.Effects.{deedIn, answerIn, Receives, Carries}
+use Rattle.calls.specs.Left as Left
 use Rattle.parsing.specs.declared.Status.the-variants.{Accepted}
 use Rattle.parsing.specs.declared.Frame.{Frame}
 use Rattle.parsing.specs.declared.Frame.the-variants as Frame
 use Rattle.setup.specs.Table.{ready, ended, cores, over}
-use Rattle.calling.specs.Calling.{performed, shownIn}
-use Rattle.frames.specs.Frames.{Machine, framed, stateOf, coreTablesOf, withState, withCoreTables}
+use Rattle.calling.specs.Calling.{performed, shownOn, shownIn}
+use Rattle.frames.specs.Frames.{Machine, machine, framed, stateOf, coreTablesOf, withCoreTables}
 use Rattle.frames.specs.Stays.{framed-by, shown-not-told, refused-same, told-goes-on, call-ends}
 use Rattle.showing.specs.declared.Reply.{Reply}
 use Rattle.showing.specs.declared.Reply.the-variants.{Told, Called}
 use Rattle.guarantees.specs.Runs.{Event, byte, next, reply, Taken}
-use Rattle.judgements.specs.Judge.{oneOf, callers}
-use Rattle.judgements.specs.Asked.{hand-over-asked, finish-asked, asked-hand-over, asked-finish}
 use Rattle.guarantees.specs.Fit.{Fit}
-use Rattle.guarantees.specs.Entries.{is-caller, reaches}
-use Rattle.guarantees.specs.Statements.{denied, Heeded}
-
--- an accepted call: the core may call, and the machine after it is the call's
-record Performs (m : Machine) (core : ℕ) (xs : List ℕ) (o : Machine × Reply) : Type 0 where
-  ready : ready (m .setup) ≡ true
-  exists : core < cores (m .setup)
-  on : isOn (power (m .powers) core) ≡ true
-  is : o ≡ withState m (performed (m .setup) (stateOf m) core xs)
-
--- a line that is a call is accepted and performed, or leaves the machine
-data Goes (m : Machine) (core : ℕ) (xs : List ℕ) (o : Machine × Reply) : Type 0 where
-  performs : Performs m core xs o → Goes m core xs o
-  leaves : o .0 ≡ m → (why : Status) → o .1 ≡ Told why → Goes m core xs o
-
-goes : (m : Machine) (e : Event) (core : ℕ) → e .0 ≡ Frame.Call core → Goes m core (e .1) (framed m (e .0) (e .1))
-goes m e core is =
-    framed-by m (e .1) (λ (g : Frame) (o : Machine × Reply). e .0 ≡ g → Goes m core (e .1) o)
-    (λ why k. leaves refl why refl)
-    (λ g why d k. leaves refl why refl)
-    (λ base pages cores a b k. absurd (omega (arith, ap byte (sym is ∙ k))))
-    (λ lowest last kind number a b c k. absurd (omega (arith, ap byte (sym is ∙ k))))
-    (λ lowest count to a b c k. absurd (omega (arith, ap byte (sym is ∙ k))))
-    (λ c a b d k.
-    let q : Frame.Call core ≡ Frame.Call c = sym is ∙ k in
-    let s : core ≡ c = cc in
-    performs (record { ready = a; exists = rw s b; on = rw s d; is = rw s }))
-    (λ c a b d k. absurd (omega (arith, ap byte (sym is ∙ k))))
-    (e .0) refl
-
-module _ (m : Machine) (fit : Fit m) (e : Event) (core : ℕ) (is : e .0 ≡ Frame.Call core) where
-  taken : Taken (reply m e) → Performs m core (e .1) (framed m (e .0) (e .1))
-  taken t = which (goes m e core is)
-    where
-      which : Goes m core (e .1) (framed m (e .0) (e .1)) → Performs m core (e .1) (framed m (e .0) (e .1))
-      which (performs p) = p
-      which (leaves k why h) = absurd (t why h)
-
-  -- what the call makes of the saved numbers is what the machine has
-  call-numbers : Performs m core (e .1) (framed m (e .0) (e .1)) → next m e .saved ≡ after (stateOf m) core (e .1) .saved
-  unfolding performed
-  call-numbers p = ap (λ (o : Machine × Reply). o .0 .saved) (p .is)
-
-  call-spares : (c u j : ℕ) → (core ≡ c → callerOf (stateOf m) core ≡ u → ⊥) → (core ≡ c → Receives (deedIn (stateOf m) core (e .1)) u → ⊥)
-      → saved (next m e .saved) c u j ≡ saved (m .saved) c u j
-  call-spares c u j n k = which (goes m e core is)
-    where
-      which : Goes m core (e .1) (framed m (e .0) (e .1)) → saved (next m e .saved) c u j ≡ saved (m .saved) c u j
-      which (performs p) = rw (call-numbers p) (saved-spared (stateOf m) core (e .1) c u j n k)
-      which (leaves h why t) = rw h
-
-  call-refused : (r : Reason) → Taken (reply m e) → answerIn (stateOf m) core (e .1) ≡ No r → next m e ≡ denied m core (e .1) r
-  unfolding performed
-  call-refused r t a =
-      ap (λ (o : Machine × Reply). o .0) (taken t .is)
-      ∙ ap (λ (s : State). record { setup = over (m .setup); named = m .named; ledger = s .ledger; owners = s .owners; saved = s .saved; powers = s .powers; turns = s .turns; lists = s .lists })
-      (refused (stateOf m) core (e .1) r a)
-
-  module _ (t : Taken (reply m e)) where
-    right : Right (stateOf m)
-    right = fit .right (taken t .ready)
-
-    inside : core < 8
-    inside = omega (arith, taken t .exists, right .most-cores)
-
-    turns-are : next m e .turns ≡ after (stateOf m) core (e .1) .turns
-    unfolding performed
-    turns-are = ap (λ (o : Machine × Reply). o .0 .turns) (taken t .is)
-
-    -- the world that runs there is one that calls
-    may : oneOf (callerOf (stateOf m) core) callers ≡ true
-    may = is-caller (callerOf (stateOf m) core) (right .running core inside .world)
-
-    calling : callerOf (stateOf m) core < 4
-    calling =
-        ⊎-elim (λ (k : callerOf (stateOf m) core ≡ normal). omega arith)
-        (λ (k : Takes (callerOf (stateOf m) core)). ⊎-elim (λ (k : callerOf (stateOf m) core ≡ secure). omega arith) (λ (k : callerOf (stateOf m) core ≡ realm). omega arith) k)
-        (right .running core inside .world)
-
-    shows : reply m e ≡ shownIn core (stateOf (next m e))
-    unfolding performed
-    shows =
-        ap (λ (o : Machine × Reply). o .1) (taken t .is)
-        ∙ sym (ap (λ (o : Machine × Reply). shownIn core (stateOf (o .0))) (taken t .is))
-
-    numbers : next m e .saved ≡ after (stateOf m) core (e .1) .saved
-    numbers = call-numbers (taken t)
+use Rattle.guarantees.specs.Entries.{reaches}
+use Rattle.guarantees.specs.Accepted.{partly, performs, right, inside, may, calling, saved-are, owners-are, powers-are, turns-are, lists-are, done-told, told-done, transfer-moves, moves-granted}
+use Rattle.guarantees.specs.Statements.{running, caller, arg, HandsOver, GivesBack, SwitchesOff, denied, HeededCall, HeededArrival, HeededOther, Heeded}
 
 -- only a hand-over to a world, or a finish, writes the world's numbers
 received : (d : Deed) (u : ℕ) → ((to : ℕ) → d ≡ HandOver to → ⊥) → (d ≡ Finish → ⊥) → Receives d u → ⊥
@@ -131,14 +57,231 @@ received GoOff u h f r = r
 received (HandOver to) u h f r = h to refl
 received Finish u h f r = f refl
 
--- a status is no call's answer, and a call's answer no status
-told-or-taken : {P : Type 0} (answer : Reply) → ((why : Status) → answer ≡ Told why → P) → (Taken answer → P) → P
-told-or-taken (Told why) t c = t why refl
-told-or-taken (Called core world x) t c = c (λ why k. let z : _≡_ {A = ℕ} 0 1 = cc in omega arith)
+-- only a transfer changes owners
+carries : (d : Deed) → ((first count to : ℕ) → d ≡ Move first count to → ⊥) → Carries d → ⊥
+carries Nothing n c = c
+carries (Move first count to) n c = n first count to refl
+carries (Map m) n c = c
+carries (Unmap virt size) n c = c
+carries (Start k a x) n c = c
+carries GoOff n c = c
+carries (HandOver to) n c = c
+carries Finish n c = c
+
+-- a finish is none of Normal's
+finisher : {h k w : ℕ} → Finishes h k w → w ≡ normal → ⊥
+finisher by-secure e = omega arith
+finisher by-realm e = omega arith
+
+-- a fast identifier with one of bits 23 to 16 set does not pass the test
+reserved-fails : (xs : List ℕ) → bits 31 31 (getD xs 0 0) ≡ 1 → (bits 23 16 (getD xs 0 0) ≡ 0 → ⊥) → admitted (calledBy xs) ≡ false
+unfolding admitted parts identifierOf
+reserved-fails xs fast some =
+    let n = getD xs 0 0 in
+    let f : bits 31 31 (n % 2 ^ 32) ≡ 1 = omega arith in
+    let g : bits 23 16 (n % 2 ^ 32) ≡ 0 → ⊥ = λ z. some (omega arith) in
+    pick-yes _ _ _ (eq-eqb _ 1 f) ∙ ne-eqb _ 0 g
+
+-- ---- a call that is accepted
+module _ (m : Machine) (fit : Fit m) (e : Event) (core : ℕ) (is : e .0 ≡ Frame.Call core) (t : Taken (reply m e)) where
+  abbrev s : State
+  s = stateOf m
+
+  abbrev xs : List ℕ
+  xs = e .1
+
+  abbrev deed : Deed
+  deed = deedIn s core xs
+
+  -- ---- what is done, and what was asked for
+  pub hands : (to : ℕ) → HandsOver m core xs to → deed ≡ HandOver to
+  hands to a = asked-hand-over (sight s core) xs (may m fit e core is t) to (a .0) (a .1)
+
+  pub hands-asked : (to : ℕ) → deed ≡ HandOver to → HandsOver m core xs to
+  hands-asked to d =
+      let r = called-for (sight s core) xs (HandOver to) (λ k. let z : _≡_ {A = ℕ} 0 1 = cc in omega arith) d in
+      (Effects.hands s core xs to d .0, partly r (λ h k. k .0))
+
+  pub gives-back : GivesBack m core xs → deed ≡ Finish
+  gives-back a = asked-finish (sight s core) xs (may m fit e core is t) (right m fit e core is t .running core (inside m fit e core is t) .away (finisher (a .so)) .0) a
+
+  pub gives-back-asked : deed ≡ Finish → GivesBack m core xs
+  gives-back-asked d =
+      let r = called-for (sight s core) xs Finish (λ k. let z : _≡_ {A = ℕ} 0 1 = cc in omega arith) d in
+      partly r (λ h k. k .0)
+
+  goes-off : SwitchesOff m core xs → deed ≡ GoOff
+  goes-off a = asked-off (sight s core) xs (may m fit e core is t) (a .0) (a .1)
+
+  off-asked : deed ≡ GoOff → SwitchesOff m core xs
+  off-asked d =
+      let r = called-for (sight s core) xs GoOff (λ k. let z : _≡_ {A = ℕ} 0 1 = cc in omega arith) d in
+      (rw d at (grounded (sight s core) xs .stands), partly r (λ h k. k .0))
+
+  -- ---- what is left
+  whole : Whole (m .saved)
+  whole = right m fit e core is t .whole .saved-whole
+
+  spares : (c w j : ℕ) → (core ≡ c → caller m core xs ≡ w → ⊥) → (core ≡ c → Receives deed w → ⊥) → saved (next m e .saved) c w j ≡ saved (m .saved) c w j
+  spares c w j n k = rw (saved-are m fit e core is t) (Effects.saved-spared s core xs c w j n k)
+
+  refuses : (r : Reason) → answerIn s core xs ≡ No r → next m e ≡ denied m core xs (minus r)
+  unfolding performed
+  refuses r a =
+      ap (λ (o : Machine × Reply). o .0) (performs m fit e core is t .is)
+      ∙ ap (λ (s : State). record { setup = over (m .setup); named = m .named; ledger = s .ledger; owners = s .owners; saved = s .saved; powers = s .powers; turns = s .turns; lists = s .lists })
+      (Effects.refused s core xs r a)
+
+  shows : reply m e ≡ shownIn core (stateOf (next m e))
+  unfolding performed
+  shows =
+      ap (λ (o : Machine × Reply). o .1) (performs m fit e core is t .is)
+      ∙ sym (ap (λ (o : Machine × Reply). shownIn core (stateOf (o .0))) (performs m fit e core is t .is))
+
+  ends : ended (next m e .setup) ≡ true
+  ends = by-reply (reply m e) refl
+    where
+      by-reply : (r : Reply) → reply m e ≡ r → ended (next m e .setup) ≡ true
+      by-reply (Told why) k = absurd (t why k)
+      by-reply (Called core world x) k = call-ends m (e .0) (e .1) core world x k
+
+  -- a mapping that is made has some size
+  some-size : (n : Mapping) → deed ≡ Map n → n .size ≡ 0 → ⊥
+  some-size n d z =
+      let g = rw d at (grounded (sight s core) xs .stands) in
+      omega (arith, granted-formed (s .site .window) (right m fit e core is t .window) (held (s .lists) (callerOf s core)) (s .owners) (callerOf s core) n (g .verdict) .some)
+
+  pub call-heeded : length xs ≡ 8 → HeededCall m core xs (next m e) (reply m e)
+  unfolding shownOn shownOf argsOf
+  call-heeded l =
+      let r = right m fit e core is t in
+      let i = inside m fit e core is t in
+      let c = calling m fit e core is t in
+      let numbers = saved-are m fit e core is t in
+      record {
+        shown-on = λ y. shows ∙ pick-yes _ _ _ y;
+        shown-off = λ n. shows ∙ pick-no _ _ _ n;
+        set-up-ends = ends;
+        reserved = λ fast some. refuses Reason.Unserved (ap (λ (j : Judged). j .answer) (judged-reserved (sight s core) xs (reserved-fails xs fast some)));
+        dispatched = λ ok. reaches s core xs (r .running core i .world) ok;
+        refused = refuses;
+        results = λ j h. rw numbers (Effects.own-results s core xs j whole i c h);
+        unlisted = λ j h k. rw numbers (Effects.own-frame s core xs j whole i c (omega arith) (omega arith) h);
+        start-stays = rw numbers (Effects.own-past s core xs 8 (omega arith) (omega arith));
+        hand-over-silent = λ to j a h.
+            rw numbers (Left.silent-frame s core xs whole i c l j h (called-for (sight s core) xs (HandOver to) (λ k. let z : _≡_ {A = ℕ} 0 1 = cc in omega arith) (hands to a) .so .1));
+        finish-silent = λ j a h.
+            rw numbers (Left.silent-frame s core xs whole i c l j h (called-for (sight s core) xs Finish (λ k. let z : _≡_ {A = ℕ} 0 1 = cc in omega arith) (gives-back a) .so .1));
+        off-silent = λ j a h.
+            rw numbers (Left.silent-frame s core xs whole i c l j h (called-for (sight s core) xs GoOff (λ k. let z : _≡_ {A = ℕ} 0 1 = cc in omega arith) (goes-off a) .so .1));
+        not-written = λ j low h n.
+            rw numbers (either (leb 3 j) (λ y. Left.past-frame s core xs whole i c l j h (leb-true 3 j y))
+            (λ y. Left.rest-frame s core xs whole i c l j h low (λ phys attr a.
+            n (leads-asked (sight s core) xs phys attr a) (rw numbers (Left.leads-zero s core xs whole i c phys attr a)) (omega (arith, leb-false 3 j y)))));
+        where-told = λ a z. Left.zero-leads s core xs whole i c _ (asked-where (sight s core) xs a) (rw numbers at z) ∙ rw numbers;
+        count-told = λ a.
+            let b = asked-count (sight s core) xs (may m fit e core is t) a in
+            rw numbers (Effects.own-results s core xs 0 whole i c (rw b (omega arith)) ∙ rw b);
+        other-cores = λ c w j n. spares c w j (λ k. absurd (n k)) (λ k. absurd (n k));
+        other-worlds = λ w j n h f. spares core w j (λ k. n) (λ k. received deed w (λ to d. h to (hands-asked to d)) (λ d. f (gives-back-asked d)));
+        same-runs = λ h f. turns-are m fit e core is t ∙ Left.turns-spared s core xs (λ to d. h to (hands-asked to d)) (λ d. f (gives-back-asked d));
+        handed-runs = λ to a. rw (turns-are m fit e core is t, running) (Left.handed-runs s core xs to (hands to a) (r .whole .turns-whole) i);
+        handed = λ to j a h. rw numbers (Effects.handed-numbers s core xs to (hands to a) j whole i l h);
+        handed-rest = λ to j a h. rw numbers (Effects.handed-rest s core xs to (hands to a) j (omega arith));
+        handed-others = λ to w j a n k. spares core w j (λ q. n) (λ q (u : Receives deed w). k (rw (hands to a) at u));
+        finished-runs = λ a. rw (turns-are m fit e core is t, running) (Left.finished-runs s core xs (gives-back a) (r .whole .turns-whole) i);
+        finished = λ j a h. rw numbers (Effects.finished-numbers s core xs (gives-back a) j whole i l h);
+        finished-rest = λ j a h. rw numbers (Effects.finished-rest s core xs (gives-back a) j h);
+        finished-others = λ w j a n k. spares core w j (λ q. n) (λ q (u : Receives deed w). k (rw (gives-back a) at u));
+        move-done = λ start count to a z.
+            let g = transfer-moves m fit e core is t start count to a z in
+            record {
+              first = g .first;
+              lies = g .lies;
+              inside = λ page h k. rw (owners-are m fit e core is t) (Effects.moved-inside s core xs (g .first) count to (g .moves) page (r .whole .owners-whole) h k .1);
+              outside = λ page n. rw (owners-are m fit e core is t) (Effects.moved-outside s core xs (g .first) count to (g .moves) page n);
+            };
+        owners-stay = λ n.
+            owners-are m fit e core is t ∙ Effects.owners-spared s core xs (carries deed (λ first count to d.
+            let v = moves-granted m fit e core is t first count to d in
+            n (v .start) count to (v .asks) (v .told)));
+        map-done = λ a z n.
+            rw (lists-are m fit e core is t) (Left.list-mapped s core xs (wanted (argsOf (calledBy xs) xs))
+            (told-done m fit e core is t (λ (d : Deed). d ≡ Map (wanted (argsOf (calledBy xs) xs))) (asked-map (sight s core) xs a n) z) (r .window) (r .whole .lists-whole) c);
+        unmap-done = λ a z.
+            rw (lists-are m fit e core is t) (Left.list-unmapped s core xs (arg m core xs 1) (arg m core xs 2)
+            (told-done m fit e core is t (λ (d : Deed). d ≡ Unmap (arg m core xs 1) (arg m core xs 2)) (asked-unmap (sight s core) xs a) z) (r .whole .lists-whole));
+        lists-stay = λ a b.
+            lists-are m fit e core is t ∙ Left.lists-spared s core xs
+            (λ n d.
+            let v = called-for (sight s core) xs (Map n) (λ k. let z : _≡_ {A = ℕ} 0 1 = cc in omega arith) d in
+            a (partly v (λ h k. k .0)) (done-told m fit e core is t (v .so .1 .1))
+            (λ z. some-size n d (ap (λ (q : Mapping). q .size) (v .so .1 .0) ∙ z)))
+            (λ virt size d.
+            let v = called-for (sight s core) xs (Unmap virt size) (λ k. let z : _≡_ {A = ℕ} 0 1 = cc in omega arith) d in
+            b (partly v (λ h k. k .0)) (done-told m fit e core is t (v .so .1 .1)));
+        other-lists = λ w n. rw (lists-are m fit e core is t) (Left.lists-others s core xs w n);
+        start-done = λ a z.
+            rw (powers-are m fit e core is t) (Left.power-started s core xs (arg m core xs 1) (arg m core xs 2) (arg m core xs 3)
+            (told-done m fit e core is t (λ (d : Deed). d ≡ Start (arg m core xs 1) (arg m core xs 2) (arg m core xs 3)) (asked-start (sight s core) xs a) z) (r .whole .powers-whole) (r .most-cores));
+        off-done = λ a. rw (powers-are m fit e core is t) (Left.power-off s core xs (goes-off a) (r .whole .powers-whole) i (performs m fit e core is t .on));
+        power-stays = λ k a b.
+            rw (powers-are m fit e core is t) (Left.power-spared s core xs k
+            (λ start context d.
+            let v = called-for (sight s core) xs (Start k start context) (λ k. let z : _≡_ {A = ℕ} 0 1 = cc in omega arith) d in
+            a (partly v (λ h k. k .0)) (done-told m fit e core is t (v .so .1 .1)) (v .so .1 .0 .0))
+            (λ d q. b (off-asked d) q));
+      }
+
+-- ---- an arrival that is accepted
+-- behind the context come seven zeros
+start-zeros : (context start j : ℕ) → 0 < j → j < 8 → getD (startNumbers (powerOf on start context)) j 0 ≡ 0
+start-zeros context start zero h l = absurd (omega arith)
+start-zeros context start (suc zero) h l = refl
+start-zeros context start (suc (suc zero)) h l = refl
+start-zeros context start (suc (suc (suc zero))) h l = refl
+start-zeros context start (suc (suc (suc (suc zero)))) h l = refl
+start-zeros context start (suc (suc (suc (suc (suc zero))))) h l = refl
+start-zeros context start (suc (suc (suc (suc (suc (suc zero)))))) h l = refl
+start-zeros context start (suc (suc (suc (suc (suc (suc (suc zero))))))) h l = refl
+start-zeros context start (suc (suc (suc (suc (suc (suc (suc (suc j)))))))) h l = absurd (omega arith)
+
+-- the machine after the arrival of a pending core
+come : (m : Machine) → Fit m → (core : ℕ) → ready (m .setup) ≡ true → core < cores (m .setup) → isPending (power (m .powers) core) ≡ true
+    → HeededArrival m core (withCoreTables m (arrivedIn (coreTablesOf m) core .0, Accepted) .0)
+come m fit core a b y =
+    let r = fit .right a in
+    let i : core < 8 = omega (arith, b, r .most-cores) in
+    record {
+      was-pending = y;
+      is-on = Effects.arrived-power (stateOf m) core y i (r .whole .powers-whole);
+      in-normal = Effects.arrived-runs (stateOf m) core y i (r .whole .turns-whole);
+      context = Effects.arrived-numbers (stateOf m) core y i 0 (r .whole .saved-whole) (omega arith);
+      zeros = λ j h l. Effects.arrived-numbers (stateOf m) core y i j (r .whole .saved-whole) (omega arith) ∙ start-zeros (power (m .powers) core .context) (power (m .powers) core .start) j h l;
+      start = Effects.arrived-numbers (stateOf m) core y i 8 (r .whole .saved-whole) (omega arith);
+      other-numbers = Effects.arrival-saved (stateOf m) core;
+      other-power = Effects.arrival-powers (stateOf m) core;
+      owners-stay = refl;
+      lists-stay = refl;
+    }
+
+arrival-heeded : (m : Machine) → Fit m → (e : Event) (core : ℕ) → e .0 ≡ Frame.Arrival core → reply m e ≡ Told Accepted → HeededArrival m core (next m e)
+unfolding performed
+arrival-heeded m fit e core is told =
+    framed-by m (e .1) (λ (g : Frame) (o : Machine × Reply). e .0 ≡ g → framed m (e .0) (e .1) ≡ o → HeededArrival m core (o .0))
+    (λ why k s. absurd (omega (arith, ap byte (sym is ∙ k))))
+    (λ g why d k s. absurd (let q : Told why ≡ Told Accepted = sym (ap (λ (o : Machine × Reply). o .1) s) ∙ told in d cc))
+    (λ base pages cores a b k s. absurd (omega (arith, ap byte (sym is ∙ k)))) (λ lowest last kind number a b c k s. absurd (omega (arith, ap byte (sym is ∙ k))))
+    (λ lowest count to a b c k s. absurd (omega (arith, ap byte (sym is ∙ k)))) (λ c a b d k s. absurd (omega (arith, ap byte (sym is ∙ k))))
+    (λ c a b d k s.
+    let q : Frame.Arrival core ≡ Frame.Arrival c = sym is ∙ k in
+    let z : core ≡ c = cc in
+    rw z (come m fit c a b d))
+    (e .0) refl refl
 
 module _ (m : Machine) (e : Event) where
   -- a line that is no call is answered by a status
-  status-only : ((core : ℕ) → e .0 ≡ Frame.Call core → ⊥) → Taken (reply m e) → ⊥
+  pub status-only : ((core : ℕ) → e .0 ≡ Frame.Call core → ⊥) → Taken (reply m e) → ⊥
   status-only n t =
       framed-by m (e .1) (λ (g : Frame) (o : Machine × Reply). e .0 ≡ g → framed m (e .0) (e .1) ≡ o → ⊥)
       (λ why k h. t why (ap (λ (o : Machine × Reply). o .1) h)) (λ g why d k h. t why (ap (λ (o : Machine × Reply). o .1) h))
@@ -159,87 +302,26 @@ module _ (m : Machine) (e : Event) where
       (λ core a b c k h. omega (arith, ap byte (sym is ∙ k)))
       (e .0) refl refl
 
-  taken-ends : Taken (reply m e) → ended (next m e .setup) ≡ true
-  taken-ends t = by-reply (reply m e) refl
+  other-heeded : ((core : ℕ) → e .0 ≡ Frame.Call core → ⊥) → ((core : ℕ) → e .0 ≡ Frame.Arrival core → ⊥) → HeededOther m (next m e)
+  other-heeded c a =
+      framed-by m (e .1) (λ (g : Frame) (o : Machine × Reply). e .0 ≡ g → HeededOther m (o .0))
+      (λ why k. same) (λ g why d k. same) (λ base pages cores a b k. same) (λ lowest last kind number a b c k. same) (λ lowest count to a b c k. same)
+      (λ core x y z k. absurd (c core k))
+      (λ core x y z k. absurd (a core k))
+      (e .0) refl
     where
-      by-reply : (r : Reply) → reply m e ≡ r → ended (next m e .setup) ≡ true
-      by-reply (Told why) k = absurd (t why k)
-      by-reply (Called core world x) k = call-ends m (e .0) (e .1) core world x k
-
--- an accepted arrival
-arrival-leaves : (m : Machine) → Fit m → (e : Event) (core : ℕ) → e .0 ≡ Frame.Arrival core → reply m e ≡ Told Accepted → (j : ℕ) → j < 9
-    → (power (next m e .powers) core ≡ put (power (m .powers) core) on) × ((turn (next m e .turns) core ≡ turnOf normal false) × (saved (next m e .saved) core normal j ≡ getD (startNumbers (power (m .powers) core)) j 0))
-unfolding performed
-arrival-leaves m fit e core is told j h =
-    framed-by m (e .1) (λ (g : Frame) (o : Machine × Reply). e .0 ≡ g → framed m (e .0) (e .1) ≡ o → (power (o .0 .powers) core ≡ put (power (m .powers) core) on) × ((turn (o .0 .turns) core ≡ turnOf normal false) × (saved (o .0 .saved) core normal j ≡ getD (startNumbers (power (m .powers) core)) j 0)))
-    (λ why k s. absurd (omega (arith, ap byte (sym is ∙ k))))
-    (λ g why d k s. absurd (let q : Told why ≡ Told Accepted = sym (ap (λ (o : Machine × Reply). o .1) s) ∙ told in d cc))
-    (λ base pages cores a b k s. absurd (omega (arith, ap byte (sym is ∙ k)))) (λ lowest last kind number a b c k s. absurd (omega (arith, ap byte (sym is ∙ k))))
-    (λ lowest count to a b c k s. absurd (omega (arith, ap byte (sym is ∙ k)))) (λ c a b d k s. absurd (omega (arith, ap byte (sym is ∙ k))))
-    (λ c a b d k s.
-    let q : Frame.Arrival core ≡ Frame.Arrival c = sym is ∙ k in
-    let z : core ≡ c = cc in
-    let r = fit .right a in
-    let y : isPending (power (m .powers) core) ≡ true = rw z d in
-    let i : core < 8 = rw z (omega (arith, b, r .most-cores)) in
-    rw (← z) (
-      arrived-power (stateOf m) core y i (r .whole .powers-whole),
-      (arrived-turn (stateOf m) core y i (r .whole .turns-whole), arrived-numbers (stateOf m) core y i j (r .whole .saved-whole) h),
-    ))
-    (e .0) refl refl
+      same : {s n l o : List ℕ} → HeededOther m (machine s n l o (m .saved) (m .powers) (m .turns) (m .lists))
+      same = record { numbers-stay = refl; power-stays = refl; turns-stay = refl; lists-stay = refl }
 
 -- Each line is heeded.
 pub heeded : (m : Machine) → Fit m → (e : Event) → Heeded m e (next m e) (reply m e)
-unfolding performed
 heeded m fit e =
     record {
-      refused-frame = λ why k n. refused-same m (e .0) (e .1) why k n;
-      call-answer = λ core is t. shows m fit e core is t;
-      call-told = λ core is k. call-not-told m e core is k;
-      other-told = λ n t. status-only m e n t;
-      set-up-ends = λ t. taken-ends m e t;
-      set-up-goes-on = λ why k. told-goes-on m (e .0) (e .1) why k;
-      refused-call = λ core r is t a. call-refused m fit e core is r t a;
-      dispatched = λ core is t ok. reaches (stateOf m) core (e .1) (right m fit e core is t .running core (inside m fit e core is t) .world) ok;
-      other-cores = λ core c u j is n. call-spares m fit e core is c u j (λ k. absurd (n k)) (λ k. absurd (n k));
-      other-worlds = λ core c u j is n h f. call-spares m fit e core is c u j (λ k. n) (λ k. received (deedIn (stateOf m) core (e .1)) u h f);
-      no-receiver = λ core u j is n h. call-spares m fit e core is core u j (λ k. n) (λ k. h);
-      hand-over = λ core to d. (hands (stateOf m) core (e .1) to d .0, hand-over-asked (sight (stateOf m) core) (e .1) to d);
-      hand-over-done = λ core to is t ok c r. asked-hand-over (sight (stateOf m) core) (e .1) (may m fit e core is t) ok to c r;
-      handed-runs = λ core to is t d.
-          rw (turns-are m fit e core is t) (turn-handed (stateOf m) core (e .1) to d (right m fit e core is t .whole .turns-whole) (inside m fit e core is t));
-      handed = λ core to j is t l d h.
-          rw (numbers m fit e core is t) (handed-numbers (stateOf m) core (e .1) to d j (right m fit e core is t .whole .saved-whole) (inside m fit e core is t) l h);
-      handed-rest = λ core to j is t l d h. rw (numbers m fit e core is t) (handed-rest (stateOf m) core (e .1) to d j (omega arith));
-      finish = λ core d. (finish-asked (sight (stateOf m) core) (e .1) d, finishes (stateOf m) core (e .1) d .1);
-      finish-done = λ core is t ok o r. asked-finish (sight (stateOf m) core) (e .1) (may m fit e core is t) ok o r;
-      finished-runs = λ core is t d.
-          rw (turns-are m fit e core is t) (turn-finished (stateOf m) core (e .1) d (right m fit e core is t .whole .turns-whole) (inside m fit e core is t));
-      finished = λ core j is t l d h.
-          rw (numbers m fit e core is t) (finished-numbers (stateOf m) core (e .1) d j (right m fit e core is t .whole .saved-whole) (inside m fit e core is t) l h);
-      finished-rest = λ core j is t d h. rw (numbers m fit e core is t) (finished-rest (stateOf m) core (e .1) d j h);
-      caller-results = λ core j is t h.
-          rw (numbers m fit e core is t) (own-results (stateOf m) core (e .1) j (right m fit e core is t .whole .saved-whole) (inside m fit e core is t) (calling m fit e core is t) h);
-      caller-numbers = λ core j is t l n h.
-          rw (numbers m fit e core is t) (own-frame (stateOf m) core (e .1) j (right m fit e core is t .whole .saved-whole) (inside m fit e core is t) (calling m fit e core is t) (omega arith) (omega arith) n);
-      caller-rest = λ core j is l h.
-          told-or-taken (reply m e)
-          (λ why k. rw (refused-same m (e .0) (e .1) why k (λ z. call-not-told m e core is (rw z at k))))
-          (λ t. rw (numbers m fit e core is t) (own-past (stateOf m) core (e .1) j (omega arith) (omega arith)));
-      arrived = λ core j is told h. arrival-leaves m fit e core is told j h;
-      arrival-saved = λ core c u j is n.
-          framed-by m (e .1) (λ (g : Frame) (o : Machine × Reply). e .0 ≡ g → saved (o .0 .saved) c u j ≡ saved (m .saved) c u j)
-          (λ why k. refl) (λ g why d k. refl) (λ base pages cores a b k. refl) (λ lowest last kind number a b c k. refl) (λ lowest count to a b c k. refl)
-          (λ c a b d k. absurd (omega (arith, ap byte (sym is ∙ k))))
-          (λ d a b f k.
-          let q : Frame.Arrival core ≡ Frame.Arrival d = sym is ∙ k in
-          let s : core ≡ d = cc in
-          rw (← s) (arrival-saved (stateOf m) core c u j n))
-          (e .0) refl;
-      other-saved = λ c a.
-          framed-by m (e .1) (λ (g : Frame) (o : Machine × Reply). e .0 ≡ g → o .0 .saved ≡ m .saved)
-          (λ why k. refl) (λ g why d k. refl) (λ base pages cores a b k. refl) (λ lowest last kind number a b c k. refl) (λ lowest count to a b c k. refl)
-          (λ core x y z k. absurd (c core k))
-          (λ core x y z k. absurd (a core k))
-          (e .0) refl;
+      refused-frame = refused-same m (e .0) (e .1);
+      call = λ core is l t. call-heeded m fit e core is t l;
+      call-told = call-not-told m e;
+      arrival = arrival-heeded m fit e;
+      other = other-heeded m e;
+      other-told = status-only m e;
+      set-up-goes-on = told-goes-on m (e .0) (e .1);
     }

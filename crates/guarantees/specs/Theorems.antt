@@ -3,7 +3,7 @@ use mathlib.Core.Path.{_≡_, refl, sym, ap, _∙_}
 use mathlib.Core.Bool.{true}
 use mathlib.Core.List.{List, [], _∷_, _++_, map}
 use mathlib.Core.Logic.{_⊎_, inl, inr}
-use Prim.Native.Nat.{ℕ}
+use Prim.Native.Nat.{ℕ, _^_, _<_}
 use native.Mathlib.Omega.{arith}
 use lib.ListN.{length, length-map}
 use Rattle.identifiers.specs.Identifier.{admitted}
@@ -11,11 +11,14 @@ use Rattle.ledger.specs.Ledger.{handler}
 use Rattle.ledger.specs.Only.{only}
 use Rattle.ledger.specs.OneHandler.{One, covers}
 use Rattle.ledger.specs.declared.Lookup.{Lookup}
+use Rattle.registers.specs.Registers.{saved-zeros}
+use Rattle.cores.specs.Power.{powerOf, off, on}
+use Rattle.cores.specs.Cores.{power, first-power-zero, first-power-other}
 use Rattle.pages.specs.Owners.{unowned-owner}
+use Rattle.rules.specs.Sizes.{normal}
 use Rattle.judgements.specs.Judge.{calledBy, argsOf, found}
 use Rattle.calls.specs.Step.{sight, judgedIn}
-use Rattle.hex.specs.Hex.{numbers}
-use Rattle.parsing.specs.Frame.{parsed, parsed-call}
+use Rattle.hex.specs.Hex.{value, inHex}
 use Rattle.lines.specs.Lines.{linesOf}
 use Rattle.lines.specs.Input.{reading, readings}
 use Rattle.parsing.specs.declared.Frame.{Frame}
@@ -26,14 +29,17 @@ use Rattle.showing.specs.declared.Reply.{Reply}
 use Rattle.showing.specs.declared.Reply.the-variants.{Told, Called}
 use Rattle.answering.specs.Answer.{textOf}
 use Rattle.inputs.specs.Run.{answers, printed}
-use Rattle.guarantees.specs.Runs.{Event, Events, byte, next, reply, Taken, ran, replies, replies-count, Allowed, Follows, by-following, follows-is, follows-ran}
+use Rattle.guarantees.specs.Runs.{Event, Events, byte, next, Taken, ran, replies, replies-count, Allowed, Follows, by-following, follows-is, follows-ran}
 use Rattle.judgements.specs.Asked.{key}
 use Rattle.guarantees.specs.Named.{Named, by-transfer, by-set-up, as-before, LastTransfer, Unmoved}
 use Rattle.guarantees.specs.Fit.{first-fit, ran-fit}
 use Rattle.guarantees.specs.Entries.{entries, one-entry}
-use Rattle.guarantees.specs.Statements.{Guaranteed, Heeded, ownerIn, texts, Shape, status, call}
+use Rattle.guarantees.specs.Statements.{Guaranteed, Heeded, ownerIn, number, texts, Shape, status, call}
+use Rattle.parsing.specs.declared.Status.the-variants.{Accepted}
+use Rattle.guarantees.specs.Started.{LastStart, pending-started}
 use Rattle.guarantees.specs.Steps.{heeded}
 use Rattle.guarantees.specs.After.{guaranteed-after}
+use Rattle.guarantees.specs.Printed.{Small, AllFit, line-small, fits-first, digits-value}
 
 -- what the ledger says of a call, by the entries that a run has accepted
 pub record Dispatched (run : Events) (m : Machine) (core : ℕ) (xs : List ℕ) : Type 0 where
@@ -56,17 +62,36 @@ module _ (run : Events) (m : Machine) (given : List Reply) (f : Follows first ru
         rw (ap (λ (o : Machine × Reply). o .0) step, ap (λ (o : Machine × Reply). o .1) step, follows-is f .0) (heeded (ran first run) (ran-fit run) e)
 
     -- If it is a call that passes the test on bits 23 to 16, it reaches the handler of the one accepted entry that covers it, or nobody.
-    pub any-call : (core : ℕ) → e .0 ≡ Frame.Call core → Taken answer → admitted (calledBy (e .1)) ≡ true → Dispatched run m core (e .1)
-    any-call core is t ok =
-        record { says = handler (m .ledger) (calledBy (e .1) .fast) (calledBy (e .1) .owner); one = rw (follows-is f .0) (one-entry run (calledBy (e .1) .fast) (calledBy (e .1) .owner)); judged = any-line .dispatched core is t ok }
+    pub any-call : (core : ℕ) → e .0 ≡ Frame.Call core → length (e .1) ≡ 8 → Taken answer → admitted (calledBy (e .1)) ≡ true → Dispatched run m core (e .1)
+    any-call core is l t ok =
+        record {
+          says = handler (m .ledger) (calledBy (e .1) .fast) (calledBy (e .1) .owner);
+          one = rw (follows-is f .0) (one-entry run (calledBy (e .1) .fast) (calledBy (e .1) .owner));
+          judged = any-line .call core is l t .dispatched ok;
+        }
+
+    -- A core that arrives finds what its last granted start gave: the address in ninth place, and the context in x0.
+    pub any-arrival : (core : ℕ) → e .0 ≡ Frame.Arrival core → answer ≡ Told Accepted → LastStart first run core (number last core normal 8) (number last core normal 0)
+    any-arrival core is told =
+        let a = any-line .arrival core is told in
+        rw (a .start, a .context, follows-is f .0) (pending-started core run (rw (follows-is f .0) at (a .was-pending)))
 
 -- Two such runs over the same lines end alike, with the same answers.
 pub runs-alike : (run : Events) (m : Machine) (a b : Machine) (r q : List Reply) → Follows m run a r → Follows m run b q → (a ≡ b) × (r ≡ q)
 runs-alike run m a b r q f g = let h = follows-is f in let k = follows-is g in (h .0 ∙ sym (k .0), h .1 ∙ sym (k .1))
 
--- Before the first line every page is Root's.
+-- Before the first line every page is Root's, every saved number is 0, core 0 is ON and the others are OFF.
 pub root-first : (page : ℕ) → ownerIn first page ≡ 0
 root-first page = unowned-owner page
+
+pub zeros-first : (core world j : ℕ) → number first core world j ≡ 0
+zeros-first = saved-zeros
+
+pub zero-first : power (first .powers) 0 ≡ powerOf on 0 0
+zero-first = first-power-zero
+
+pub others-first : (core : ℕ) → (core ≡ 0 → ⊥) → power (first .powers) core ≡ powerOf off 0 0
+others-first = first-power-other
 
 -- ---- from any accepted set-up on
 -- a call on a core with its eight numbers, or the arrival of a core; whether it is accepted or refused
@@ -111,11 +136,6 @@ module _ (lines : Events) (m : Machine) (told : List Reply) (set-up : Follows fi
 pub any-lines : (lines : List (List ℕ)) → let run = map reading lines in Guaranteed first run (ran first run) (replies first run)
 any-lines lines = any-run (map reading lines) _ _ (follows-ran first (map reading lines))
 
--- A line that is a call has eight numbers, as is asked of a hand-over and a finish.
-pub eight : (line : List ℕ) (core : ℕ) → reading line .0 ≡ Frame.Call core → length (reading line .1) ≡ 8
-unfolding parsed numbers
-eight line core is = ap length (parsed-call line [] (reading line .1) (reading line .0) refl (rw is))
-
 said : (run : Events) (m : Machine) → answers m run ≡ texts (replies m run)
 unfolding answers replies texts
 said [] m = refl
@@ -125,6 +145,18 @@ said (e ∷ rest) m = rw (said rest (next m e))
 pub printed-answers : (m : Machine) (input : List ℕ) → (printed m input ≡ texts (replies m (readings input))) × (length (replies m (readings input)) ≡ length (linesOf input))
 unfolding printed readings
 printed-answers m input = (said (readings input) m, replies-count m (readings input) ∙ length-map (linesOf input) reading)
+
+-- The numbers of a line are below 2^64, those of a call are eight, and its core is below 256.
+pub read-small : (line : List ℕ) → Small (reading line)
+read-small = line-small
+
+-- Nothing is cut: whatever the lines, every core and world that is shown is below 256, and every number below 2^64.
+pub nothing-cut : (lines : List (List ℕ)) → AllFit (replies first (map reading lines))
+nothing-cut = fits-first
+
+-- So each is what its digits stand for: a number below 16^n is shown whole in n of them.
+pub shown-whole : (n x : ℕ) → x < 16 ^ n → value (inHex n x) 0 n ≡ x
+shown-whole = digits-value
 
 -- Each answer has one of two shapes: a status, or what a call shows.
 pub answer-shape : (r : Reply) → Shape (textOf r)

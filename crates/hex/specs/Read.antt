@@ -99,7 +99,7 @@ byte-was l k x e =
     refl e
 
 -- ---- a number, sign by sign
-value-small : (l : List ℕ) (at n : ℕ) → value l at n < 16 ^ n
+pub value-small : (l : List ℕ) (at n : ℕ) → value l at n < 16 ^ n
 unfolding value
 value-small l at zero = omega arith
 value-small l at (suc n) = let v = value-small l at n in rw pow-suc (omega arith)

@@ -3,3 +3,4 @@ pub mod Judge
 pub mod Laws
 pub mod Grounds
 pub mod Asked
+pub mod Decided

@@ -258,6 +258,16 @@ pub zeros-whole : Whole zeros
 unfolding zeros Whole
 zeros-whole = length-replicate {A = ℕ} numbers 0
 
+-- every number is 0 at first
+blank-at : (n j : ℕ) → _≡_ {A = ℕ} (getD (replicate n 0) j 0) 0
+blank-at zero j = refl
+blank-at (suc n) zero = refl
+blank-at (suc n) (suc j) = blank-at n j
+
+pub saved-zeros : (c w i : ℕ) → saved zeros c w i ≡ 0
+unfolding zeros
+saved-zeros c w i = numbered c w i (λ h k l. saved-is zeros c w h k i l ∙ blank-at numbers (place c w + i)) (λ z. z zeros)
+
 module _ (t : List ℕ) (c w : ℕ) (xs : List ℕ) where
   pub saving-whole : Whole t → Whole (saving t c w xs)
   unfolding Whole
