@@ -1,10 +1,8 @@
 -- What the promise of `answer_read` comes to, part by part, after a read and at the end of the input.
-use mathlib.Core.Path.{_≡_, refl, sym, ap, _∙_}
-use mathlib.Core.Bool.{true, false, _&&_}
-use mathlib.Core.List.{List, [], _∷_, _++_}
+use mathlib.Core.Path.{_≡_, refl, ap, _∙_}
+use mathlib.Core.List.{List, [], _∷_}
 use Prim.Native.Nat.{ℕ, _≤_, _<_}
 use native.Mathlib.Omega.{arith}
-use lib.Dec.{eqb, ltb}
 use lib.ListN.{length, take, length-take}
 use borrow.Author.Tests.{lt-ltb, eq-eqb, ne-eqb}
 use Rattle.rules.specs.Choice.{pick-yes, pick-no, both-true, left-false}
@@ -14,7 +12,7 @@ use Rattle.lines.specs.Parts.{complete, unfinished}
 use Rattle.frames.specs.Frames.{Machine}
 use Rattle.inputs.specs.Run.{printed, leftBy, printed-alike, left-alike}
 use Rattle.inputs.specs.Cut.{line-complete}
-use Rattle.inputs.specs.Waiting.{ended, heard, front, sized, served}
+use Rattle.inputs.specs.Waiting.{ended, heard, front, served}
 
 -- the bytes that wait become a line with its newline
 ended-complete : (l : List ℕ) → complete (ended l) ≡ ended l
@@ -60,10 +58,6 @@ module _ (m m′ : Machine) (s : List ℕ) (n : ℕ) (out′ : List ℕ) (kept�
         waits = ap (λ (q : Machine × ((ℕ × List ℕ) × (ℕ × List ℕ))). q .1 .1 .1) e;
         few = omega arith;
       }
-
-  -- what is to be written lies inside
-  pub put-inside : n ≤ length out′
-  put-inside = handed .inside
 
 module _ (m m′ : Machine) (buf : List ℕ) (kept n : ℕ) (put : ℕ) (out′ : List ℕ) (kept′ : ℕ) (buf′ : List ℕ) (e : (m′, (front put out′, front kept′ buf′)) ≡ served m (heard buf kept n)) where
   -- After a read: the first n bytes.

@@ -1,8 +1,8 @@
 -- What the loop keeps: the machine and the bytes that wait are those that the reads so far have come to.
 use mathlib.Core.Path.{_≡_, refl, sym, ap, _∙_}
-use mathlib.Core.Bool.{Bool, true, false}
+use mathlib.Core.Bool.{Bool, true}
 use mathlib.Core.List.{List, [], _∷_, _++_, append-nil, append-assoc}
-use Prim.Native.Nat.{ℕ, _≤_, _<_}
+use Prim.Native.Nat.{ℕ, _≤_}
 use native.Mathlib.Omega.{arith}
 use lib.ListN.{length, take, drop, length-take, take-append-drop}
 use lib.Seq.{take-take, getD-take}
@@ -19,7 +19,7 @@ use Rattle.frames.specs.Frames.{Machine, machine, first}
 use Rattle.inputs.specs.Run.{leftBy}
 use Rattle.inputs.specs.Cut.{unfinished-so}
 use Rattle.inputs.specs.Waiting.{heard, front, served}
-use Rattle.inputs.specs.Reads.{Between, between, after, left, joined, all-left}
+use Rattle.inputs.specs.Reads.{between, after, left, joined, all-left}
 use Rattle.inputs.specs.Handed.{read-handed, end-handed}
 
 -- a machine that an input leaves

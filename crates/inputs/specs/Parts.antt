@@ -1,10 +1,9 @@
 -- An input in two parts, cut anywhere, is answered as it is whole.
-use mathlib.Core.Path.{_≡_, refl, sym, ap, _∙_}
-use mathlib.Core.List.{List, [], _∷_, _++_, append-assoc}
+use mathlib.Core.Path.{_≡_, sym, ap, _∙_}
+use mathlib.Core.List.{List, _++_, append-assoc}
 use Prim.Native.Nat.{ℕ}
 use Rattle.lines.specs.Input.{readings}
 use Rattle.lines.specs.Parts.{complete, unfinished, both-parts, readings-parts}
-use Rattle.parsing.specs.declared.Frame.{Frame}
 use Rattle.frames.specs.Frames.{Machine}
 use Rattle.inputs.specs.Run.{answers, printed, reached, leftBy, answers-two, reached-two}
 

@@ -1,5 +1,5 @@
 -- What is printed for an input, whatever its bytes: the answers to its lines, in order; and the machine that it leaves.
-use mathlib.Core.Path.{_≡_, refl, sym, _∙_}
+use mathlib.Core.Path.{_≡_, refl, sym}
 use mathlib.Core.List.{List, [], _∷_, _++_, append-assoc}
 use Prim.Native.Nat.{ℕ}
 use Rattle.lines.specs.Input.{readings, readings-none}

@@ -1,6 +1,5 @@
 -- How the code's branches meet the definitions of Waiting: one law for each, and one for the whole.
 use mathlib.Core.Path.{_≡_, refl, sym, ap, _∙_}
-use mathlib.Core.Bool.{true, false}
 use mathlib.Core.List.{List, [], _∷_, _++_}
 use Prim.Native.Nat.{ℕ, _+_, _-_, _≤_, _<_}
 use native.Mathlib.Numerals.{add-one}
@@ -10,7 +9,7 @@ use lib.ListN.{length, take, drop, set, length-take, length-drop, length-append,
 use lib.Seq.{take-at, take-all, take-take, take-add, drop-at, length-take-le, take-suc-set}
 use borrow.Author.Tests.{lt-ltb, le-ltb, eq-eqb, ne-eqb, le-leb, leb-true, leb-false}
 use Rattle.rules.specs.Choice.{picked, passed, pick-yes, either, both-true, left-false, right-false}
-use Rattle.tools.specs.Laid.{laid, put-take, length-laid}
+use Rattle.tools.specs.Laid.{laid, put-take}
 use Rattle.lines.specs.Lines.{part}
 use Rattle.lines.specs.Parts.{complete, unfinished, both-parts}
 use Rattle.lines.specs.Front.{keeps, atFront, fronted}

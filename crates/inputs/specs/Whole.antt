@@ -1,24 +1,22 @@
 -- What a feed comes to: the lines up to where it stopped are answered. Where every answer has room these are all the complete lines.
 use mathlib.Core.Path.{_≡_, refl, sym, ap, _∙_}
-use mathlib.Core.Bool.{true, false}
 use mathlib.Core.List.{List, [], _∷_, _++_, append-nil, append-assoc}
-use Prim.Native.Nat.{ℕ, zero, suc, _+_, _-_, _*_, _≤_, _<_}
+use Prim.Native.Nat.{ℕ, zero, suc, _+_, _-_, _*_, _≤_}
 use native.Mathlib.Omega.{arith}
 use lib.Dec.{eqb}
 use lib.ListN.{length, take, drop, length-append, length-drop, take-append-drop}
 use lib.Seq.{length-take-le}
 use borrow.Author.Tests.{ltb-true, ltb-false, eqb-true, eqb-false}
-use Rattle.rules.specs.Choice.{pick, chosen, either}
+use Rattle.rules.specs.Choice.{chosen, either}
 use Rattle.tools.specs.Laid.{put, laid, put-fits, laid-append, length-laid}
 use Rattle.parsing.specs.Frame.{isCall, no-call, parsed-frame}
 use Rattle.text.specs.Text.{longest}
 use Rattle.lines.specs.Lines.{linesOf, endOf, lineAt, nextOf, Unbroken, lines-first, line-unbroken, rest-unbroken, end-from}
 use Rattle.lines.specs.Input.{reading, readings, reading-of, Found, next-found, next-unfinished, next-inside}
-use Rattle.lines.specs.Parts.{complete, unfinished}
+use Rattle.lines.specs.Parts.{complete}
 use Rattle.parsing.specs.declared.Frame.{Frame}
-use Rattle.lines.specs.declared.Next.the-variants.{Line, Unfinished}
+use Rattle.lines.specs.declared.Next.the-variants.{Line}
 use Rattle.frames.specs.Frames.{Machine, framed}
-use Rattle.showing.specs.declared.Reply.{Reply}
 use Rattle.answering.specs.Answer.{textOf, answered, numbers-idle, text-short, text-told}
 use Rattle.inputs.specs.Run.{answers, printed, reached, leftBy, left-none, printed-none}
 use Rattle.inputs.specs.Parts.{lines-printed, lines-left}

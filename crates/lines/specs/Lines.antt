@@ -17,7 +17,6 @@ use Rattle.parsing.specs.Frame.{parsed, parsed-digits, other-parsed, no-digits}
 use Rattle.lines.specs.Quick.{Looked}
 use Rattle.parsing.specs.declared.Frame.{Frame}
 use Rattle.parsing.specs.declared.Frame.the-variants.{Call, Refused}
-use Rattle.parsing.specs.declared.Status.{Status}
 use Rattle.parsing.specs.declared.Status.the-variants.{NoHex}
 use Rattle.lines.specs.declared.Look.{Look}
 use Rattle.lines.specs.declared.Look.the-variants as Look
