@@ -2,13 +2,13 @@
 use mathlib.Core.Path.{_≡_, refl, ap}
 use mathlib.Core.Bool.{true, false}
 use mathlib.Core.List.{List, []}
-use Prim.Native.Nat.{ℕ, _+_, _*_, _≤_}
+use Prim.Native.Nat.{ℕ, _+_, _≤_}
 use native.Mathlib.Omega.{arith}
 use lib.Dec.{leb}
 use lib.ListN.{length}
 use borrow.Author.Tests.{leb-true}
 use Rattle.rules.specs.Choice.{pick, chosen, yes-or-no}
-use Rattle.tools.specs.Laid.{laid, put, length-laid}
+use Rattle.tools.specs.Laid.{put, length-laid}
 use Rattle.registers.specs.declared.Shown.{Shown}
 use Rattle.parsing.specs.Frame.{isCall}
 use Rattle.parsing.specs.declared.Frame.{Frame}

@@ -5,6 +5,7 @@ use mathlib.Core.List.{List, [], _∷_}
 use Prim.Native.Nat.{ℕ, zero, suc, _^_, _≤_, _<_}
 use native.Mathlib.Omega.{arith}
 use lib.ListN.{length, getD}
+use Rattle.rules.specs.Sizes.{mostCores}
 use Rattle.rules.specs.Reasons.{minus, minus-at}
 use Rattle.rules.specs.declared.Reason.{Reason}
 use Rattle.identifiers.specs.declared.Parts.{Parts}
@@ -99,14 +100,14 @@ module _ (r : List ℕ) (core caller : ℕ) (xs : List ℕ) (a : Answer) where
   answered-other c u j n = saving-other (saving r core caller xs) core caller (written (calledBy xs) a) c u j n ∙ saving-other r core caller xs c u j n
 
   -- What the answer lists stands in the caller's x0 and on.
-  pub answered-listed : (j : ℕ) → Whole r → core < 8 → caller < 4 → j < length (written (calledBy xs) a)
+  pub answered-listed : (j : ℕ) → Whole r → core < mostCores → caller < 4 → j < length (written (calledBy xs) a)
       → saved (answeredIn r core caller xs a) core caller j ≡ getD (written (calledBy xs) a) j 0
   answered-listed j w h k l =
       let few = written-few (calledBy xs) a in
       saving-at (saving r core caller xs) core caller (written (calledBy xs) a) j (saving-whole r core caller xs w) h k (omega arith) l
 
   -- What it does not list keeps the frame's number.
-  pub answered-unlisted : (j : ℕ) → Whole r → core < 8 → caller < 4 → j < 9 → j < length xs → length (written (calledBy xs) a) ≤ j
+  pub answered-unlisted : (j : ℕ) → Whole r → core < mostCores → caller < 4 → j < 9 → j < length xs → length (written (calledBy xs) a) ≤ j
       → saved (answeredIn r core caller xs a) core caller j ≡ getD xs j 0
   answered-unlisted j w h k l m n =
       saving-past (saving r core caller xs) core caller (written (calledBy xs) a) j n ∙ saving-at r core caller xs j w h k l m

@@ -13,7 +13,7 @@ use Rattle.registers.specs.Registers.{Whole, saved, saving, saving-at, saving-p
 use Rattle.cores.specs.Power.{put, on, isPending, arrived-pending, entered}
 use Rattle.cores.specs.Cores.{WholePowers, WholeTurns, power, withPower, turn, withTurn, power-same, power-other, turn-same}
 use Rattle.cores.specs.declared.Turn.{Turn}
-use Rattle.rules.specs.Sizes.{lastWorld}
+use Rattle.rules.specs.Sizes.{lastWorld, mostCores}
 use Rattle.pages.specs.Owners.{WholeOwners, owner, given-outside}
 use Rattle.ranges.specs.declared.Mapping.{Mapping}
 use Rattle.transfers.specs.Granted.{Movable, move-granted, moved-from, moved-to}
@@ -124,12 +124,12 @@ module _ (s : State) (core : ℕ) (xs : List ℕ) where
       (λ e. never-own (sight s core .inner) (deedIn s core xs) (grounded (sight s core) xs .stands)))
 
   -- What the answer lists stands in the caller's x0 and on.
-  pub own-results : (j : ℕ) → Whole (s .saved) → core < 8 → callerOf s core < 4 → j < length (resultsIn s core xs)
+  pub own-results : (j : ℕ) → Whole (s .saved) → core < mostCores → callerOf s core < 4 → j < length (resultsIn s core xs)
       → saved (after s core xs .saved) core (callerOf s core) j ≡ getD (resultsIn s core xs) j 0
   own-results j w h k l = own-numbers j ∙ answered-listed (s .saved) core (callerOf s core) xs (answerIn s core xs) j w h k l
 
   -- What it does not list keeps the frame's number.
-  pub own-frame : (j : ℕ) → Whole (s .saved) → core < 8 → callerOf s core < 4 → j < 9 → j < length xs → length (resultsIn s core xs) ≤ j
+  pub own-frame : (j : ℕ) → Whole (s .saved) → core < mostCores → callerOf s core < 4 → j < 9 → j < length xs → length (resultsIn s core xs) ≤ j
       → saved (after s core xs .saved) core (callerOf s core) j ≡ getD xs j 0
   own-frame j w h k l m n = own-numbers j ∙ answered-unlisted (s .saved) core (callerOf s core) xs (answerIn s core xs) j w h k l m n
 
@@ -142,7 +142,7 @@ module _ (s : State) (core : ℕ) (xs : List ℕ) where
     hands = rw e at (grounded (sight s core) xs .stands)
 
     -- A hand-over gives the receiver the frame's x0 to x7.
-    pub handed-numbers : (j : ℕ) → Whole (s .saved) → core < 8 → length xs ≡ 8 → j < 8 → saved (after s core xs .saved) core to j ≡ getD xs j 0
+    pub handed-numbers : (j : ℕ) → Whole (s .saved) → core < mostCores → length xs ≡ 8 → j < 8 → saved (after s core xs .saved) core to j ≡ getD xs j 0
     handed-numbers j w h l k =
         let t : to < 4 = ⊎-elim (λ (y : to ≡ secure). omega arith) (λ (y : to ≡ realm). omega arith) (hands .1) in
         rw (saved-is, e) (saving-at (answeredAt s core xs .saved) core to xs j (answered-whole (s .saved) core (callerOf s core) xs (answerIn s core xs) w) h t (omega arith) (omega arith))
@@ -159,7 +159,7 @@ module _ (s : State) (core : ℕ) (xs : List ℕ) where
     finishes = rw e at (grounded (sight s core) xs .stands)
 
     -- A finish gives Normal the finisher's x1 and on as its x0 and on.
-    pub finished-numbers : (j : ℕ) → Whole (s .saved) → core < 8 → length xs ≡ 8 → j < returned (callerOf s core) → saved (after s core xs .saved) core normal j ≡ getD xs (1 + j) 0
+    pub finished-numbers : (j : ℕ) → Whole (s .saved) → core < mostCores → length xs ≡ 8 → j < returned (callerOf s core) → saved (after s core xs .saved) core normal j ≡ getD xs (1 + j) 0
     finished-numbers j w h l k =
         let n : length (finishNumbers (callerOf s core) xs) ≡ returned (callerOf s core) = simp (length-take, length-drop) (omega arith) in
         rw (saved-is, e) (saving-at (answeredAt s core xs .saved) core normal (finishNumbers (callerOf s core) xs) j
@@ -273,7 +273,7 @@ module _ (s : State) (core : ℕ) where
   arrival-powers c n =
       arrival-by (λ (q : State). power (q .powers) c ≡ power (s .powers) c) refl (λ y. power-other (s .powers) core (put (power (s .powers) core) on) c n)
 
-  module _ (y : isPending (power (s .powers) core) ≡ true) (h : core < 8) where
+  module _ (y : isPending (power (s .powers) core) ≡ true) (h : core < mostCores) where
     -- A core that arrives finds the context in x0, zero in x1 to x7, and then its start address.
     pub arrived-numbers : (j : ℕ) → Whole (s .saved) → j < 9 → saved (afterArrival s core .saved) core normal j ≡ getD (startNumbers (power (s .powers) core)) j 0
     arrived-numbers j w l =

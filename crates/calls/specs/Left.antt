@@ -15,7 +15,7 @@ use Rattle.mapping.specs.Lists.{WholeLists, held, holding-inserts, holding-othe
 use Rattle.mapping.specs.Entries.{Inserted, Removed, without-removes}
 use Rattle.mapping.specs.Sound.{granted-room, granted-formed}
 use Rattle.ranges.specs.declared.Mapping.{Mapping}
-use Rattle.rules.specs.Sizes.{normal}
+use Rattle.rules.specs.Sizes.{normal, mostCores}
 use Rattle.judgements.specs.Judge.{calledBy}
 use Rattle.judgements.specs.Grounds.{grounded}
 use Rattle.mapping.specs.declared.Lead.{Lead}
@@ -29,7 +29,7 @@ use Rattle.calls.specs.Step.{State, sight, callerOf, judgedIn, carriedIn
 use Rattle.calls.specs.Effects.{deedIn, answerIn, answeredAt, after, own-results, own-frame}
 
 -- ---- what x0 tells, and what is written besides
-module _ (s : State) (core : ℕ) (xs : List ℕ) (w : Whole (s .saved)) (h : core < 8) (k : callerOf s core < 4) where
+module _ (s : State) (core : ℕ) (xs : List ℕ) (w : Whole (s .saved)) (h : core < mostCores) (k : callerOf s core < 4) where
   -- what the caller has in x0 and on
   abbrev x : ℕ → ℕ
   x j = saved (after s core xs .saved) core (callerOf s core) j
@@ -152,14 +152,14 @@ module _ (s : State) (core : ℕ) (xs : List ℕ) where
   lists-spared m u = lists-by (deedIn s core xs) (answeredAt s core xs) core (callerOf s core) xs m u
 
   -- A core that is started is pending, with the call's address and context.
-  pub power-started : (c a x : ℕ) → deedIn s core xs ≡ Start c a x → WholePowers (s .powers) → s .site .cores ≤ 8 → power (after s core xs .powers) c ≡ powerOf pending a x
+  pub power-started : (c a x : ℕ) → deedIn s core xs ≡ Start c a x → WholePowers (s .powers) → s .site .cores ≤ mostCores → power (after s core xs .powers) c ≡ powerOf pending a x
   unfolding called applied
   power-started c a x e w h =
       let g = rw e at (grounded (sight s core) xs .stands) in
       rw e (power-same (s .powers) c (started (power (s .powers) c) a x) w (omega (arith, g .exists)) ∙ started-off (power (s .powers) c) a x (g .not-on) (g .not-pending))
 
   -- A core that goes OFF is OFF.
-  pub power-off : deedIn s core xs ≡ GoOff → WholePowers (s .powers) → core < 8 → isOn (power (s .powers) core) ≡ true → power (after s core xs .powers) core ≡ put (power (s .powers) core) off
+  pub power-off : deedIn s core xs ≡ GoOff → WholePowers (s .powers) → core < mostCores → isOn (power (s .powers) core) ≡ true → power (after s core xs .powers) core ≡ put (power (s .powers) core) off
   unfolding called applied
   power-off e w h on = rw e (power-same (s .powers) core (goneOff (power (s .powers) core)) w h ∙ gone-off-on (power (s .powers) core) on)
 
@@ -169,12 +169,12 @@ module _ (s : State) (core : ℕ) (xs : List ℕ) where
   power-spared c n o = powers-by (deedIn s core xs) (answeredAt s core xs) core (callerOf s core) xs c n o
 
   -- After a hand-over the receiver runs,
-  pub handed-runs : (to : ℕ) → deedIn s core xs ≡ HandOver to → WholeTurns (s .turns) → core < 8 → turn (after s core xs .turns) core .world ≡ to
+  pub handed-runs : (to : ℕ) → deedIn s core xs ≡ HandOver to → WholeTurns (s .turns) → core < mostCores → turn (after s core xs .turns) core .world ≡ to
   unfolding called applied
   handed-runs to e w h = rw e (ap (λ (t : Turn). t .world) (turn-same (s .turns) core (handed (turn (s .turns) core) to) w h))
 
   -- after a finish Normal,
-  pub finished-runs : deedIn s core xs ≡ Finish → WholeTurns (s .turns) → core < 8 → turn (after s core xs .turns) core .world ≡ normal
+  pub finished-runs : deedIn s core xs ≡ Finish → WholeTurns (s .turns) → core < mostCores → turn (after s core xs .turns) core .world ≡ normal
   unfolding called applied
   finished-runs e w h = rw e (ap (λ (t : Turn). t .world) (turn-same (s .turns) core (finished (turn (s .turns) core)) w h))
 

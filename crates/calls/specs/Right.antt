@@ -13,7 +13,7 @@ use Rattle.cores.specs.Power.{turnOf, off, pending, on, isOn, isPending}
 use Rattle.cores.specs.Cores.{power, withPower, with-power-whole, turn, withTurn, with-turn-whole, power-other, turn-same, turn-other, firstPowers, firstTurns, first-powers-whole, first-power-other, first-turns-whole, first-turn}
 use Rattle.cores.specs.declared.Power.{Power}
 use Rattle.cores.specs.declared.Turn.{Turn}
-use Rattle.rules.specs.Sizes.{lastWorld}
+use Rattle.rules.specs.Sizes.{lastWorld, mostCores}
 use Rattle.pages.specs.Window.{acceptable}
 use Rattle.pages.specs.Owners.{WholeOwners, owner, given, given-whole, given-worlds}
 use Rattle.mapping.specs.Lists.{WholeLists, holding-whole, released-whole, unmapped, unmapped-whole, held, held-unmapped, holding, holding-other, holding-inserts, released-other, released-takes}
@@ -41,13 +41,13 @@ pub record Right (s : State) : Type 0 where
   -- the window and the core count are such as set-up takes
   pub window : acceptable (s .site .window) ≡ true
   pub some-cores : 0 < s .site .cores
-  pub most-cores : s .site .cores ≤ 8
+  pub most-cores : s .site .cores ≤ mostCores
   -- every table has all its numbers, and every owner is a world
   pub whole : WholeTables s
   pub worlds : (page : ℕ) → owner (s .owners) page ≤ lastWorld
   -- each world's mappings are well formed, apart, and of pages that the world owns
   pub sound : (world : ℕ) → Sound (s .site .window) (s .owners) world (held (s .lists) world)
-  pub running : (core : ℕ) → core < 8 → Running (turn (s .turns) core) (power (s .powers) core)
+  pub running : (core : ℕ) → core < mostCores → Running (turn (s .turns) core) (power (s .powers) core)
   -- there is no core past the count
   pub absent : (core : ℕ) → s .site .cores ≤ core → power (s .powers) core .state ≡ off
 
@@ -90,7 +90,7 @@ on-exists s r core e =
 module _ (s : State) (r : Right s) where
   right-with : (t : Tables) → WholeTables (withTables s t) → ((page : ℕ) → owner (t .owners) page ≤ lastWorld)
       → ((world : ℕ) → Sound (s .site .window) (t .owners) world (held (t .lists) world))
-      → ((core : ℕ) → core < 8 → Running (turn (t .turns) core) (power (t .powers) core))
+      → ((core : ℕ) → core < mostCores → Running (turn (t .turns) core) (power (t .powers) core))
       → ((core : ℕ) → s .site .cores ≤ core → power (t .powers) core .state ≡ off)
       → Right (withTables s t)
   right-with t whole worlds sound running absent =
@@ -126,7 +126,7 @@ module _ (s : State) (r : Right s) where
       (λ c h. rw (power-other (s .powers) k p c (λ e. omega arith)) (r .absent c h))
 
   -- what one core runs
-  right-turn : (k : ℕ) (t : Turn) → k < 8 → Running t (power (s .powers) k) → Right (withTables s (withTurns (tablesOf s) (withTurn (s .turns) k t)))
+  right-turn : (k : ℕ) (t : Turn) → k < mostCores → Running t (power (s .powers) k) → Right (withTables s (withTurns (tablesOf s) (withTurn (s .turns) k t)))
   right-turn k t inside may =
       right-with (withTurns (tablesOf s) (withTurn (s .turns) k t))
       (record { owners-whole = r .whole .owners-whole; saved-whole = r .whole .saved-whole; powers-whole = r .whole .powers-whole; turns-whole = with-turn-whole _ k t (r .whole .turns-whole); lists-whole = r .whole .lists-whole })
@@ -136,7 +136,7 @@ module _ (s : State) (r : Right s) where
 
 -- ---- a deed that has its grounds, done for a core that is ON
 module _ (s : State) (r : Right s) (core : ℕ) (ready : isOn (power (s .powers) core) ≡ true) where
-  inside : core < 8
+  inside : core < mostCores
   inside = let h = on-exists s r core ready in omega (arith, r .most-cores)
 
   -- giver and taker hold the lists that the judgement looked at
@@ -194,7 +194,7 @@ module _ (s : State) (r : Right s) (core : ℕ) where
 
 -- ---- the start
 -- The state that set-up leaves is right: no number saved, core 0 ON in Normal, the others OFF, and no mapping.
-pub first-right : (w : Site) (l o : List ℕ) → acceptable (w .window) ≡ true → 0 < w .cores → w .cores ≤ 8 → WholeOwners o → ((page : ℕ) → owner o page ≤ lastWorld)
+pub first-right : (w : Site) (l o : List ℕ) → acceptable (w .window) ≡ true → 0 < w .cores → w .cores ≤ mostCores → WholeOwners o → ((page : ℕ) → owner o page ≤ lastWorld)
     → Right (state w l o zeros firstPowers firstTurns unmapped)
 first-right w l o ok some most h f =
     record {

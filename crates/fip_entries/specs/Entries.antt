@@ -1,5 +1,5 @@
 -- An entry: an identifier of 16 bytes, then offset, size and flags of the image, 8 bytes each. Of a package's table, which follows the header, offsets still count from the package's first byte.
-use mathlib.Core.Path.{_≡_, sym, _∙_}
+use mathlib.Core.Path.{_≡_}
 use mathlib.Core.Bool.{Bool, true, false, not, _&&_}
 use mathlib.Core.List.{List}
 use mathlib.Core.Logic.{_⊎_, inl, inr, ⊎-elim}

@@ -1,11 +1,10 @@
 -- How bytes are laid, one part behind the other.
 use mathlib.Core.Path.{_≡_, refl, sym, ap, _∙_}
 use mathlib.Core.List.{List, [], _∷_, _++_}
-use Prim.Native.Nat.{ℕ, _+_, _-_, _*_, _/_, _%_, _≤_, _<_}
+use Prim.Native.Nat.{ℕ, _+_, _-_, _/_, _%_, _≤_, _<_}
 use native.Mathlib.Omega.{arith}
 use lib.ListN.{length, getD, set}
 use Rattle.tools.specs.Laid.{laid, laid-one, laid-append, laid-past, length-laid, then}
-use Rattle.fip_entries.specs.Entries.{entry}
 use Rattle.fip_lay.specs.Bytes.{spell, copied, entryOf, length-spell, length-copied, spell-next, copied-next, spell-none, copied-none}
 
 -- a loop has laid something over the bytes o and has p now: what is left, laid at a place, makes w of it

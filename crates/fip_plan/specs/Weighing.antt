@@ -2,12 +2,12 @@
 use mathlib.Core.Path.{_≡_, refl, sym, _∙_}
 use mathlib.Core.Bool.{Bool, true, false, _||_}
 use mathlib.Core.List.{List}
-use Prim.Native.Nat.{ℕ, _+_, _≤_, _<_}
+use Prim.Native.Nat.{ℕ, _≤_, _<_}
 use native.Mathlib.Omega.{arith}
 use lib.Dec.{ltb}
 use lib.ListN.{length}
 use borrow.Author.Tests.{eq-eqb, ne-eqb, lt-ltb, le-ltb, ltb-true, ltb-false}
-use Rattle.rules.specs.Choice.{pick, picked, passed, chosen, either, first-or, second-or, neither, not-first, not-second}
+use Rattle.rules.specs.Choice.{picked, passed, chosen, first-or, second-or, neither, not-first, not-second}
 use Rattle.rules.specs.Tests.{sieve, Clear, Reasons, none-holds, stops, goes, ends, said}
 use Rattle.fip_table.specs.Table.{tableEnd, slots}
 use Rattle.fip_plan.specs.Plan.{planned, total, capped, hindrances, weighed}

@@ -1,6 +1,6 @@
 -- What holds of every package that is accepted, and what a read of any package shows. The statements come first, the theorems last.
 use mathlib.Core.Path.{_≡_, refl, sym, _∙_}
-use mathlib.Core.Bool.{Bool, true, false, not, _||_}
+use mathlib.Core.Bool.{Bool, true, false, not}
 use mathlib.Core.List.{List, []}
 use mathlib.Core.Logic.{_⊎_, inl, inr, ⊎-elim}
 use Prim.Native.Nat.{ℕ, _+_, _-_, _*_, _≤_, _<_}
@@ -8,7 +8,7 @@ use native.Mathlib.Omega.{arith}
 use lib.Dec.{ltb, eqb, lit≤}
 use lib.ListN.{length, getD, length-drop}
 use borrow.Author.Tests.{ltb-true, ltb-false, lt-ltb, le-ltb, eqb-true, eqb-false, eq-eqb, not-false}
-use Rattle.rules.specs.Choice.{pick, chosen, either, yes-or-no, neither, not-first, not-second}
+use Rattle.rules.specs.Choice.{chosen, either, yes-or-no, neither, not-first, not-second}
 use Rattle.rules.specs.Tests.{sieve, Clear, Reasons, none-holds, sieved, goes, ends}
 use Rattle.tools.specs.Search.{first-is}
 use Rattle.fip_entries.specs.Numbers.{four}

@@ -8,7 +8,7 @@ use lib.Dec.{ltb}
 use lib.ListN.{length, take, drop, length-append}
 use lib.Seq.{take-at, drop-at}
 use borrow.Author.Tests.{lt-ltb, ltb-true, ltb-false}
-use Rattle.rules.specs.Choice.{pick-yes, pick-no, either}
+use Rattle.rules.specs.Choice.{pick-yes, either}
 use Rattle.rules.specs.Tests.{among-reasons}
 use Rattle.tools.specs.Laid.{laid, length-laid}
 use Rattle.fip_entries.specs.Entries.{entry}

@@ -1,9 +1,8 @@
 -- How the parts of a package are laid, one behind the other.
 use mathlib.Core.Path.{_≡_, refl, _∙_}
-use mathlib.Core.List.{List, _++_}
+use mathlib.Core.List.{List}
 use Prim.Native.Nat.{ℕ, _+_, _-_, _*_, _≤_, _<_}
 use native.Mathlib.Omega.{arith}
-use lib.ListN.{length}
 use Rattle.tools.specs.Laid.{laid, then}
 use Rattle.fip_entries.specs.Entries.{entry, offset, size, zeros}
 use Rattle.fip_table.specs.Table.{tableEnd}

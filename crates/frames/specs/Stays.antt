@@ -17,7 +17,7 @@ use Rattle.parsing.specs.declared.Status.{Status}
 use Rattle.parsing.specs.declared.Status.the-variants.{Accepted}
 use Rattle.parsing.specs.declared.Frame.{Frame}
 use Rattle.parsing.specs.declared.Frame.the-variants as Frame
-use Rattle.setup.specs.Table.{ready, ended, window, cores, fixed, over, fixed-ready, fixed-ended, over-ready, over-ended, over-window, over-cores}
+use Rattle.setup.specs.Table.{ready, ended, window, cores, fixed, over, fixed-ended, over-ready, over-ended, over-window, over-cores}
 use Rattle.setup.specs.Statuses.{ruled-by}
 use Rattle.setup.specs.Frames.{fits}
 use Rattle.setup.specs.Outcomes.{sited-by, entering-by, naming-in-by}

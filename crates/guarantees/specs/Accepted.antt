@@ -10,7 +10,7 @@ use Rattle.cores.specs.Power.{isOn}
 use Rattle.cores.specs.Cores.{power}
 use Rattle.pages.specs.Window.{runOf}
 use Rattle.pages.specs.declared.Place.the-variants.{Page}
-use Rattle.rules.specs.Sizes.{secure, normal, realm}
+use Rattle.rules.specs.Sizes.{secure, normal, realm, mostCores}
 use Rattle.judgements.specs.Judge.{Sight, oneOf, callers}
 use Rattle.judgements.specs.Asked.{Reached, called-for}
 use Rattle.judgements.specs.Grounds.{Calls, Takes}
@@ -65,7 +65,7 @@ module _ (m : Machine) (fit : Fit m) (e : Event) (core : ℕ) (is : e .0 ≡ Fra
   pub right : Right (stateOf m)
   right = fit .right (performs .ready)
 
-  pub inside : core < 8
+  pub inside : core < mostCores
   inside = omega (arith, performs .exists, right .most-cores)
 
   world : Calls (callerOf (stateOf m) core)

@@ -1,24 +1,24 @@
 -- The machine after any run: why each statement about it holds.
-use mathlib.Core.Path.{_≡_, refl, sym, ap, subst, _∙_}
-use mathlib.Core.Bool.{Bool, true, false}
+use mathlib.Core.Path.{_≡_, refl, sym, _∙_}
+use mathlib.Core.Bool.{true, false}
 use mathlib.Core.List.{List, [], _∷_}
 use mathlib.Core.Option.{none, some}
 use mathlib.Core.Logic.{inl}
-use Prim.Native.Nat.{ℕ, _+_, _-_, _≤_, _<_}
+use Prim.Native.Nat.{ℕ, _+_, _-_, _≤_}
 use native.Mathlib.Omega.{arith}
 use lib.Dec.{eqb}
-use borrow.Author.Tests.{eqb-true, eqb-false, ltb-true, ltb-false, ne-eqb}
+use borrow.Author.Tests.{eqb-true, eqb-false, ltb-true, ltb-false}
 use lib.Dec.{ltb}
-use Rattle.rules.specs.Choice.{pick, pick-yes, pick-no, either, yes-or-no, first-or, not-first, not-second}
-use Rattle.cores.specs.Power.{off, pending, on, isOn, isPending}
-use Rattle.cores.specs.Cores.{power, turn, firstPowers, firstTurns, first-power-other, first-turn}
-use Rattle.cores.specs.declared.Power.{Power}
-use Rattle.pages.specs.Owners.{owner, unowned-owner}
-use Rattle.mapping.specs.Lists.{held, held-unmapped}
+use Rattle.rules.specs.Sizes.{mostCores}
+use Rattle.rules.specs.Choice.{pick-yes, pick-no, either, yes-or-no, first-or, not-first, not-second}
+use Rattle.cores.specs.Power.{isOn, isPending}
+use Rattle.cores.specs.Cores.{power, turn, firstPowers, first-power-other, first-turn}
+use Rattle.pages.specs.Owners.{unowned-owner}
+use Rattle.mapping.specs.Lists.{held-unmapped}
 use Rattle.ranges.specs.Ranges.{meet, meet-if, within-low, within-high}
 use Rattle.mapping.specs.Mapping.{holds, clashes, clash, anyOf, firstOf, deciding, leadOf}
 use Rattle.mapping.specs.Entries.{Apart}
-use Rattle.mapping.specs.Sound.{Sound, covers, sound-none}
+use Rattle.mapping.specs.Sound.{Sound, sound-none}
 use Rattle.mapping.specs.Once.{coverings, covered-few, one-covers, lead-exact}
 use Rattle.ranges.specs.declared.Mapping.{Mapping}
 use Rattle.mapping.specs.declared.Lead.the-variants.{To}
@@ -89,8 +89,8 @@ module _ (m : Machine) (fit : Fit m) where
   fit-runs core o =
       by-time
       (λ e r.
-      either (ltb core 8) (λ h. r .running core (ltb-true _ _ h) .world)
-      (λ h. absurd (yes-or-no _ o (fit-absent core e (omega (arith, ltb-false core 8 h, r .most-cores)) .0))))
+      either (ltb core mostCores) (λ h. r .running core (ltb-true _ _ h) .world)
+      (λ h. absurd (yes-or-no _ o (fit-absent core e (omega (arith, ltb-false core mostCores h, r .most-cores)) .0))))
       (λ e.
       either (eqb core 0) (λ z. rw (e, eqb-true core 0 z, first-turn 0 (omega arith)) (inl refl))
       (λ z. let f = first-power-other core (eqb-false core 0 z) in let g : isOn (power firstPowers core) ≡ true = (rw e at o) in absurd (yes-or-no _ g (rw f))))

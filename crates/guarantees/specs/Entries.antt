@@ -1,15 +1,12 @@
 -- Which ledger entries a run has accepted, and that a call reaches the handler of the one that covers it, or nobody.
 use mathlib.Core.Path.{_≡_, refl, sym, ap, _∙_}
-use mathlib.Core.Bool.{Bool, true, false, not}
+use mathlib.Core.Bool.{Bool, true, false}
 use mathlib.Core.List.{List, [], _∷_, _++_}
 use mathlib.Core.Logic.{⊎-elim}
-use Prim.Native.Nat.{ℕ, _<_}
-use native.Mathlib.Omega.{arith}
-use lib.ListN.{getD}
-use borrow.Author.Tests.{eq-eqb}
-use Rattle.rules.specs.Choice.{pick, pick-yes, pick-no, yes-or-no, not-false, second-or, first-or}
+use Prim.Native.Nat.{ℕ}
+use Rattle.rules.specs.Choice.{pick, pick-yes, pick-no}
 use Rattle.identifiers.specs.Identifier.{admitted}
-use Rattle.ledger.specs.Ledger.{empty, handler, entered, isAccepted}
+use Rattle.ledger.specs.Ledger.{handler}
 use Rattle.ledger.specs.Only.{only}
 use Rattle.ledger.specs.OneHandler.{Attempt, One, answer, accepted, covers, one-handler}
 use Rattle.ledger.specs.OneHandler as OneHandler
@@ -18,14 +15,13 @@ use Rattle.rules.specs.Sizes.{secure, normal, realm}
 use Rattle.judgements.specs.Judge.{calledBy, argsOf, found, oneOf, callers}
 use Rattle.judgements.specs.Grounds.{Calls, Takes}
 use Rattle.judgements.specs.Asked.{key, judged-found}
-use Rattle.judgements.specs.declared.Judged.{Judged}
 use Rattle.calls.specs.Step.{State, sight, callerOf, judgedIn, called, applied}
 use Rattle.parsing.specs.declared.Status.{Status}
 use Rattle.parsing.specs.declared.Status.the-variants.{Accepted, NoHex, Unknown, Misplaced, OutOfRange, Clash}
 use Rattle.parsing.specs.declared.Frame.{Frame}
 use Rattle.parsing.specs.declared.Frame.the-variants as Frame
 use Rattle.calling.specs.Calling.{performed}
-use Rattle.frames.specs.Frames.{Machine, first, framed, stateOf}
+use Rattle.frames.specs.Frames.{Machine, first}
 use Rattle.frames.specs.Stays.{framed-by}
 use Rattle.showing.specs.declared.Reply.{Reply}
 use Rattle.showing.specs.declared.Reply.the-variants.{Told, Called}

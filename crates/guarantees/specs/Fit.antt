@@ -1,33 +1,30 @@
 -- What is so of the machine at every time, from the first line on: every line keeps it, whatever it is.
-use mathlib.Core.Path.{_≡_, refl, sym, ap, subst, _∙_}
+use mathlib.Core.Path.{_≡_, refl, sym, _∙_}
 use mathlib.Core.Bool.{true, false, _&&_}
 use mathlib.Core.List.{List}
-use Prim.Native.Nat.{ℕ, _≤_, _<_}
+use Prim.Native.Nat.{ℕ}
 use native.Mathlib.Omega.{arith}
 use lib.Dec.{leb}
 use borrow.Author.Tests.{leb-true}
+use Rattle.rules.specs.Sizes.{mostCores}
 use Rattle.rules.specs.Choice.{left-true, right-true, yes-or-no}
 use Rattle.ledger.specs.Ledger.{empty}
 use Rattle.registers.specs.Registers.{zeros}
-use Rattle.cores.specs.Power.{isOn, isPending}
-use Rattle.cores.specs.Cores.{power, firstPowers, firstTurns}
-use Rattle.rules.specs.Sizes.{lastWorld}
+use Rattle.cores.specs.Cores.{firstPowers, firstTurns}
 use Rattle.pages.specs.Window.{acceptable}
 use Rattle.pages.specs.Owners.{unowned, unowned-whole, unowned-owner, given, given-whole, given-worlds}
-use Rattle.pages.specs.Named.{WholeNamed, unnamed, unnamed-whole, marked, marked-whole}
-use Rattle.pages.specs.Naming.{naming, Granted, naming-granted}
-use Rattle.rules.specs.declared.Entered.the-variants as Entered
+use Rattle.pages.specs.Named.{WholeNamed, unnamed-whole, marked-whole}
+use Rattle.pages.specs.Naming.{naming-granted}
 use Rattle.mapping.specs.Lists.{unmapped, held-unmapped}
 use Rattle.mapping.specs.Sound.{sound-none}
-use Rattle.calls.specs.Step.{State, state, called, applied, arrivedIn}
-use Rattle.calls.specs.Effects.{WholeTables}
+use Rattle.calls.specs.Step.{State, state}
 use Rattle.calls.specs.Right.{Right, called-right, arrival-right, first-right}
 use Rattle.calls.specs.declared.Site.{Site}
 use Rattle.parsing.specs.declared.Frame.{Frame}
-use Rattle.setup.specs.Table.{ready, ended, window, cores, fixed, over, unset-ready, unset-ended, fixed-ready, fixed-ended, fixed-window, fixed-cores, over-ready, over-ended}
+use Rattle.setup.specs.Table.{ready, ended, window, cores, unset-ready, unset-ended, fixed-ready, fixed-ended, fixed-window, fixed-cores, over-ready, over-ended}
 use Rattle.setup.specs.Frames.{fits}
 use Rattle.calling.specs.Calling.{performed}
-use Rattle.frames.specs.Frames.{Machine, machine, first, stateOf, coreTablesOf, withSetup, withPages, withState, withCoreTables}
+use Rattle.frames.specs.Frames.{Machine, first, stateOf}
 use Rattle.frames.specs.Stays.{framed-by, call-state, arrival-state}
 use Rattle.showing.specs.declared.Reply.{Reply}
 use Rattle.guarantees.specs.Runs.{Event, Events, next, ran, always}
@@ -58,11 +55,11 @@ first-fit =
 site-right : (site : Site) → fits (site .window) (site .cores) ≡ true → Right (state site empty unowned zeros firstPowers firstTurns unmapped)
 unfolding fits
 site-right site e =
-    let some = right-true (acceptable (site .window)) (leb 1 (site .cores) && leb (site .cores) 8) e in
+    let some = right-true (acceptable (site .window)) (leb 1 (site .cores) && leb (site .cores) mostCores) e in
     first-right site empty unowned
-    (left-true (acceptable (site .window)) (leb 1 (site .cores) && leb (site .cores) 8) e)
-    (leb-true 1 (site .cores) (left-true (leb 1 (site .cores)) (leb (site .cores) 8) some))
-    (leb-true (site .cores) 8 (right-true (leb 1 (site .cores)) (leb (site .cores) 8) some))
+    (left-true (acceptable (site .window)) (leb 1 (site .cores) && leb (site .cores) mostCores) e)
+    (leb-true 1 (site .cores) (left-true (leb 1 (site .cores)) (leb (site .cores) mostCores) some))
+    (leb-true (site .cores) mostCores (right-true (leb 1 (site .cores)) (leb (site .cores) mostCores) some))
     unowned-whole (λ page. rw (unowned-owner page) (omega arith))
 
 -- owners that a set-up line has given, where nothing is mapped

@@ -1,13 +1,13 @@
 -- Runs: the machine after any lines, and the answers to them; and any run whose every step is one that the step's promise allows.
-use mathlib.Core.Path.{_≡_, refl, sym, ap, subst, _∙_}
-use mathlib.Core.List.{List, [], _∷_, _++_}
+use mathlib.Core.Path.{_≡_, refl, ap, _∙_}
+use mathlib.Core.List.{List, [], _∷_}
 use Prim.Native.Nat.{ℕ}
 use lib.ListN.{length}
 use Rattle.rules.specs.Agree.{agree}
 use Rattle.parsing.specs.declared.Status.{Status}
 use Rattle.parsing.specs.declared.Frame.{Frame}
 use Rattle.parsing.specs.declared.Frame.the-variants as Frame
-use Rattle.frames.specs.Frames.{Machine, first, framed}
+use Rattle.frames.specs.Frames.{Machine, framed}
 use Rattle.showing.specs.declared.Reply.{Reply}
 use Rattle.showing.specs.declared.Reply.the-variants.{Told}
 unfoldable pub use Rattle.inputs.specs.Run.{reached as ran}

@@ -18,7 +18,7 @@ use Rattle.cores.specs.Cores.{power}
 use Rattle.ranges.specs.declared.Mapping.{Mapping}
 use Rattle.mapping.specs.Lists.{held}
 use Rattle.mapping.specs.Sound.{granted-formed}
-use Rattle.rules.specs.Sizes.{normal}
+use Rattle.rules.specs.Sizes.{normal, mostCores}
 use Rattle.judgements.specs.Judge.{calledBy, argsOf, wanted}
 use Rattle.judgements.specs.Asked.{Finishes, by-secure, by-realm, called-for, leads-asked, judged-reserved}
 use Rattle.judgements.specs.Decided.{asked-map, asked-unmap, asked-start, asked-off, asked-hand-over, asked-finish, asked-where, asked-count}
@@ -35,7 +35,8 @@ use Rattle.parsing.specs.declared.Status.the-variants.{Accepted}
 use Rattle.parsing.specs.declared.Frame.{Frame}
 use Rattle.parsing.specs.declared.Frame.the-variants as Frame
 use Rattle.setup.specs.Table.{ready, ended, cores, over}
-use Rattle.calling.specs.Calling.{performed, shownOn, shownIn}
+use Rattle.showing.specs.Showing.{shownOn}
+use Rattle.calling.specs.Calling.{performed, shownIn}
 use Rattle.frames.specs.Frames.{Machine, machine, framed, stateOf, coreTablesOf, withCoreTables}
 use Rattle.frames.specs.Stays.{framed-by, shown-not-told, refused-same, told-goes-on, call-ends}
 use Rattle.showing.specs.declared.Reply.{Reply}
@@ -251,7 +252,7 @@ come : (m : Machine) → Fit m → (core : ℕ) → ready (m .setup) ≡ true �
     → HeededArrival m core (withCoreTables m (arrivedIn (coreTablesOf m) core .0, Accepted) .0)
 come m fit core a b y =
     let r = fit .right a in
-    let i : core < 8 = omega (arith, b, r .most-cores) in
+    let i : core < mostCores = omega (arith, b, r .most-cores) in
     record {
       was-pending = y;
       is-on = Effects.arrived-power (stateOf m) core y i (r .whole .powers-whole);

@@ -17,7 +17,7 @@ use Rattle.lines.specs.Parts.{complete}
 use Rattle.parsing.specs.declared.Frame.{Frame}
 use Rattle.lines.specs.declared.Next.the-variants.{Line}
 use Rattle.frames.specs.Frames.{Machine, framed}
-use Rattle.answering.specs.Answer.{textOf, answered, numbers-idle, text-short, text-told}
+use Rattle.answering.specs.Answer.{textOf, numbers-idle, text-short, text-told}
 use Rattle.inputs.specs.Run.{answers, printed, reached, leftBy, left-none, printed-none}
 use Rattle.inputs.specs.Parts.{lines-printed, lines-left}
 use Rattle.inputs.specs.Cut.{unbroken-so, line-complete, parted, line-more}

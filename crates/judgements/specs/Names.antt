@@ -1,6 +1,5 @@
 -- The identifiers that are served, by their names here.
 use Prim.Native.Nat.{ℕ}
-pub use Rattle.rules.specs.Sizes.{secure, normal, realm}
 
 -- ---- the architecture
 abbrev pub version : ℕ

@@ -1,7 +1,5 @@
 // The identifiers of the paper, each named once.
 
-pub use rules::NORMAL;
-
 // The architecture.
 pub const VERSION: u32 = 0x8000_0000;
 

@@ -105,18 +105,6 @@ module _ (s : List ℕ) (from to : ℕ) where
       inside : from + r ≤ length s
       inside = omega (arith, kept)
 
-      pub front-kept : (r ≤ 133) × (r ≤ length s)
-      front-kept = (omega (arith, kept), omega (arith, kept))
-
-      -- it has no newline where the whole had none
-      pub front-line : Unbroken (part s from to) → Unbroken (take r s′)
-      front-line u k b z =
-          let e : take r s′ ≡ take r (drop from s) = rw front (take-front s from r inside) in
-          let n : length (take r s′) ≡ r = rw e (front-length s from r inside) in
-          let l : length (part s from to) ≡ to - from = front-length s from (to - from) (omega arith) in
-          let c : k < to - from = omega (arith, kept) in
-          u k (omega arith) (getD-take (to - from) (drop from s) k 0 c ∙ sym (getD-take r (drop from s) k 0 (omega arith)) ∙ rw e at z)
-
       pub front-readings : Unbroken (part s from to) → (more : List ℕ) → readings (take r s′ ++ more) ≡ readings (part s from to ++ more)
       front-readings u more =
           rw (front, take-front s from r inside)

@@ -5,12 +5,12 @@ use mathlib.Core.List.{List, [], _∷_, _++_, map}
 use Prim.Native.Nat.{ℕ, suc, _+_, _≤_, _<_}
 use native.Mathlib.Omega.{arith}
 use lib.Dec.{ltb}
-use lib.ListN.{length, take, drop, length-append}
+use lib.ListN.{length, take, length-append}
 use lib.Seq.{length-take-le, getD-take}
 use borrow.Author.Tests.{ne-eqb, ltb-true, ltb-false}
 use Rattle.rules.specs.Choice.{pick, by}
 use Rattle.parsing.specs.Frame.{isCall, numbersOf, parsed, long-line, other-parsed, parsed-frame, parsed-call}
-use Rattle.lines.specs.Lines.{linesOf, before, endOf, lineAt, lined, nextOf, Unbroken, lines-last, lines-closed, lines-at, end-from}
+use Rattle.lines.specs.Lines.{linesOf, before, endOf, lineAt, lined, nextOf, Unbroken, lines-closed, end-from}
 use Rattle.parsing.specs.declared.Status.the-variants.{NoHex}
 use Rattle.parsing.specs.declared.Frame.{Frame}
 use Rattle.parsing.specs.declared.Frame.the-variants.{Refused}
@@ -28,10 +28,6 @@ readings input = map reading (linesOf input)
 pub readings-none : readings [] ≡ []
 unfolding readings linesOf
 readings-none = refl
-
-pub readings-last : (l : List ℕ) → Unbroken l → (length l ≡ 0 → ⊥) → readings l ≡ reading l ∷ []
-unfolding readings
-readings-last l u n = rw (lines-last l u n)
 
 -- a last line is read as if it had its newline
 pub readings-closed : (l : List ℕ) → Unbroken l → (length l ≡ 0 → ⊥) → readings (l ++ 10 ∷ []) ≡ readings l
@@ -75,13 +71,6 @@ module _ (s xs ys : List ℕ) (at : ℕ) where
       absurd (let z : _≡_ {A = ℕ} 0 1 = cc in omega arith))
       (λ y h g. (ltb-false _ _ h, ap (λ (q : Next × List ℕ). q .1) g))
       refl e
-
-  -- what is left to be read before and after the line at a place, whatever follows what is there
-  pub readings-next : (f : Frame) (after : ℕ) → (Line f after, ys) ≡ nextOf s at xs → (more : List ℕ) → readings (drop at s ++ more) ≡ (f, pick (isCall f) ys []) ∷ readings (drop after s ++ more)
-  unfolding readings
-  readings-next f after e more =
-      let d = next-found f after e in
-      rw (lines-at s at (d .whole) more, d .next) (ap (λ (r : Frame × List ℕ). r ∷ map reading (linesOf (drop (endOf s at + 1) s ++ more))) (reading-of (lineAt s at) xs ys f (d .is)))
 
   pub next-inside : (f : Frame) (after : ℕ) → (Line f after, ys) ≡ nextOf s at xs → (at < after) × (after ≤ length s)
   next-inside f after e = let d = next-found f after e in (omega (arith, d .next, end-from s at), omega (arith, d .next, d .whole))

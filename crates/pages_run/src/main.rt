@@ -10,7 +10,6 @@
 // p PAGE 0 0 0: the page's owner
 //
 // The first two have no name, and nothing is written of them.
-ghost use mathlib.Core.Path.{_≡_};
 ghost use Prim.Native.Nat.{_+_, _≤_, _<_};
 ghost use lib.ListN.{length};
 use libc::STDIN_FILENO;
