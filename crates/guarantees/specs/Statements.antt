@@ -168,6 +168,9 @@ module _ (m : Machine) (core : ℕ) (xs : List ℕ) where
     shown world = record { x0 = number last core world 0; x1 = number last core world 1; x2 = number last core world 2; x3 = number last core world 3 }
 
     pub record HeededCall (answer : Reply) : Type 0 where
+      -- The core that called is one of the board's, and was ON.
+      pub exists : core < cores (m .setup)
+      pub was-on : isOn (power (m .powers) core) ≡ true
       -- Where the core is then ON, the answer is the core, the world that runs there and that world's x0 to x3,
       pub shown-on : isOn (power (last .powers) core) ≡ true → answer ≡ Called core (running last core) (shown (running last core))
       -- and where it is not, the core, 255 and Normal's.
@@ -198,8 +201,9 @@ module _ (m : Machine) (core : ℕ) (xs : List ℕ) where
       -- C2000030 is answered with the number of cores that are ON.
       pub count-told : Is 1 0xC2000030 → x 0 ≡ onCount (m .powers)
       -- ---- what others find
-      -- No number of another core changes.
+      -- No number of another core changes, nor does what runs there.
       pub other-cores : (c w j : ℕ) → (core ≡ c → ⊥) → number last c w j ≡ number m c w j
+      pub other-turns : (c : ℕ) → (c ≡ core → ⊥) → turn (last .turns) c ≡ turn (m .turns) c
       -- Except for a hand-over or a finish, no number of another world changes, and the same world runs.
       pub other-worlds : (w j : ℕ) → (caller ≡ w → ⊥) → ((to : ℕ) → HandsOver to → ⊥) → (GivesBack → ⊥) → number last core w j ≡ number m core w j
       pub same-runs : ((to : ℕ) → HandsOver to → ⊥) → (GivesBack → ⊥) → last .turns ≡ m .turns
@@ -241,9 +245,10 @@ pub record HeededArrival (m : Machine) (core : ℕ) (last : Machine) : Type 0 wh
   pub context : number last core normal 0 ≡ power (m .powers) core .context
   pub zeros : (j : ℕ) → 0 < j → j < 8 → number last core normal j ≡ 0
   pub start : number last core normal 8 ≡ power (m .powers) core .start
-  -- No other number changes, and no other core's power.
+  -- No other number changes, and on no other core its power, or what runs there.
   pub other-numbers : (c w j : ℕ) → (core ≡ c → normal ≡ w → ⊥) → number last c w j ≡ number m c w j
   pub other-power : (c : ℕ) → (c ≡ core → ⊥) → power (last .powers) c ≡ power (m .powers) c
+  pub other-turns : (c : ℕ) → (c ≡ core → ⊥) → turn (last .turns) c ≡ turn (m .turns) c
   -- Nor do owners and mappings.
   pub owners-stay : last .owners ≡ m .owners
   pub lists-stay : last .lists ≡ m .lists

@@ -160,6 +160,8 @@ module _ (m : Machine) (fit : Fit m) (e : Event) (core : ℕ) (is : e .0 ≡ Fra
       let c = calling m fit e core is t in
       let numbers = saved-are m fit e core is t in
       record {
+        exists = performs m fit e core is t .exists;
+        was-on = performs m fit e core is t .on;
         shown-on = λ y. shows ∙ pick-yes _ _ _ y;
         shown-off = λ n. shows ∙ pick-no _ _ _ n;
         set-up-ends = ends;
@@ -184,6 +186,7 @@ module _ (m : Machine) (fit : Fit m) (e : Event) (core : ℕ) (is : e .0 ≡ Fra
             let b = asked-count (sight s core) xs (may m fit e core is t) a in
             rw numbers (Effects.own-results s core xs 0 whole i c (rw b (omega arith)) ∙ rw b);
         other-cores = λ c w j n. spares c w j (λ k. absurd (n k)) (λ k. absurd (n k));
+        other-turns = λ c n. rw (turns-are m fit e core is t) (Left.turns-others s core xs c n);
         other-worlds = λ w j n h f. spares core w j (λ k. n) (λ k. received deed w (λ to d. h to (hands-asked to d)) (λ d. f (gives-back-asked d)));
         same-runs = λ h f. turns-are m fit e core is t ∙ Left.turns-spared s core xs (λ to d. h to (hands-asked to d)) (λ d. f (gives-back-asked d));
         handed-runs = λ to a. rw (turns-are m fit e core is t, running) (Left.handed-runs s core xs to (hands to a) (r .whole .turns-whole) i);
@@ -262,6 +265,7 @@ come m fit core a b y =
       start = Effects.arrived-numbers (stateOf m) core y i 8 (r .whole .saved-whole) (omega arith);
       other-numbers = Effects.arrival-saved (stateOf m) core;
       other-power = Effects.arrival-powers (stateOf m) core;
+      other-turns = Effects.arrival-turns (stateOf m) core;
       owners-stay = refl;
       lists-stay = refl;
     }
