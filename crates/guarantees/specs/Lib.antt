@@ -6,6 +6,7 @@ pub mod Accepted
 pub mod Owners
 pub mod Started
 pub mod Statements
+pub mod Met
 pub mod Steps
 pub mod After
 pub mod Printed

@@ -3,7 +3,8 @@ use mathlib.Core.Path.{_≡_}
 use mathlib.Core.Bool.{true, false}
 use mathlib.Core.List.{List, [], _∷_, _++_}
 use mathlib.Core.Option.{some}
-use Prim.Native.Nat.{ℕ, _+_, _-_, _≤_, _<_}
+use Prim.Native.Nat.{ℕ, _+_, _-_, _%_, _≤_, _<_}
+use lib.Dec.{eqb}
 use lib.ListN.{length, getD}
 use Rattle.rules.specs.Choice.{pick}
 use Rattle.rules.specs.declared.Reason.{Reason}
@@ -13,7 +14,7 @@ use Rattle.registers.specs.Registers.{saved, saving}
 use Rattle.registers.specs.declared.Shown.{Shown}
 use Rattle.cores.specs.Power.{powerOf, put, off, pending, on, isOn, isPending}
 use Rattle.cores.specs.Cores.{power, turn, onCount}
-use Rattle.pages.specs.Window.{runOf}
+use Rattle.pages.specs.Window.{runOf, InPage}
 use Rattle.pages.specs.Owners.{owner, countOwned}
 use Rattle.pages.specs.declared.Window.{Window}
 use Rattle.pages.specs.declared.Place.the-variants.{Page}
@@ -26,7 +27,7 @@ use Rattle.ranges.specs.declared.Mapping.{Mapping}
 use Rattle.mapping.specs.declared.Lead.the-variants.{To}
 use Rattle.rules.specs.Sizes.{normal}
 use Rattle.judgements.specs.Judge.{calledBy, argsOf, found}
-use Rattle.judgements.specs.Grounds.{Calls}
+use Rattle.judgements.specs.Grounds.{Calls, Takes}
 use Rattle.judgements.specs.declared.Answer.the-variants.{No}
 use Rattle.rules.specs.Reasons.{minus}
 use Rattle.answers.specs.Answers.{negative}
@@ -126,6 +127,24 @@ pub record Given (m last : Machine) (start count to : ℕ) : Type 0 where
   pub inside : (page : ℕ) → first ≤ page → page < first + count → ownerIn last page ≡ to
   pub outside : (page : ℕ) → (first ≤ page → page < first + count → ⊥) → ownerIn last page ≡ ownerIn m page
 
+-- a run of some pages inside the window is all this world's, which has mapped no page of it
+pub record Had (m : Machine) (world start count : ℕ) : Type 0 where
+  pub some : 0 < count
+  pub first : ℕ
+  pub lies : runOf (window m) start count ≡ Page first
+  pub owned : (page : ℕ) → first ≤ page → page < first + count → ownerIn m page ≡ world
+  pub unmapped : (page : ℕ) → first ≤ page → page < first + count → covers (window m) (mapped m world) page ≡ false
+
+-- a core of the board that is neither ON nor pending, and an address to start it at: a multiple of 4 in a page of Normal's
+pub record Startable (m : Machine) (core address : ℕ) : Type 0 where
+  pub exists : core < cores (m .setup)
+  pub not-on : isOn (power (m .powers) core) ≡ false
+  pub not-pending : isPending (power (m .powers) core) ≡ false
+  pub fourth : address % 4 ≡ 0
+  pub page : ℕ
+  pub inside : InPage (window m) address page
+  pub owned : ownerIn m page ≡ normal
+
 -- ---- a call on a core with its numbers x0 to x7
 module _ (m : Machine) (core : ℕ) (xs : List ℕ) where
   -- who calls, and an argument as the call reads it
@@ -134,6 +153,10 @@ module _ (m : Machine) (core : ℕ) (xs : List ℕ) where
 
   abbrev pub arg : ℕ → ℕ
   arg i = argument (calledBy xs) (getD xs i 0)
+
+  -- who gives pages to a world: the caller to Normal, and Normal to the caller
+  abbrev pub giver : ℕ → ℕ
+  giver to = pick (eqb to normal) caller normal
 
   -- what the call is: it passes the test on bits 23 to 16, reaches this handler and has this identifier
   abbrev pub Is : ℕ → ℕ → Type 0
@@ -218,8 +241,11 @@ module _ (m : Machine) (core : ℕ) (xs : List ℕ) where
       pub finished-rest : (j : ℕ) → GivesBack → returned caller ≤ j → number last core normal j ≡ number m core normal j
       pub finished-others : (w j : ℕ) → GivesBack → (caller ≡ w → ⊥) → (normal ≡ w → ⊥) → number last core w j ≡ number m core w j
       -- ---- what is done, by what was asked and is answered
-      -- A transfer that is answered 0 gives the taker its whole run. No other call changes an owner.
+      -- A transfer that is answered 0 gives the taker its whole run.
       pub move-done : (start count to : ℕ) → AsksTransfer m core xs start count to → x 0 ≡ 0 → Given m last start count to
+      -- Its caller is Secure or Realm, and before it the whole run was the giver's and not mapped.
+      pub move-owned : (start count to : ℕ) → AsksTransfer m core xs start count to → x 0 ≡ 0 → Takes caller × Had m (giver to) start count
+      -- No other call changes an owner.
       pub owners-stay : ((start count to : ℕ) → AsksTransfer m core xs start count to → x 0 ≡ 0 → ⊥) → last .owners ≡ m .owners
       -- A map of some size that is answered 0 puts its mapping into the caller's list, which else is as it was.
       pub map-done : Is 1 0xC2000020 → x 0 ≡ 0 → (arg 3 ≡ 0 → ⊥)
@@ -231,6 +257,8 @@ module _ (m : Machine) (core : ℕ) (xs : List ℕ) where
       pub other-lists : (w : ℕ) → (w ≡ caller → ⊥) → mapped last w ≡ mapped m w
       -- A start that is answered 0 leaves core x1 pending, with x2 and x3 as they were read.
       pub start-done : AsksStart m core xs → x 0 ≡ 0 → power (last .powers) (arg 1) ≡ powerOf pending (arg 2) (arg 3)
+      -- Its caller is Normal, and before it that core could be started at x2.
+      pub start-ready : AsksStart m core xs → x 0 ≡ 0 → (caller ≡ normal) × Startable m (arg 1) (arg 2)
       -- A core that is switched off is OFF. No other call changes a core's power.
       pub off-done : SwitchesOff → power (last .powers) core ≡ put (power (m .powers) core) off
       pub power-stays : (c : ℕ) → (AsksStart m core xs → x 0 ≡ 0 → c ≡ arg 1 → ⊥) → (SwitchesOff → c ≡ core → ⊥) → power (last .powers) c ≡ power (m .powers) c

@@ -45,6 +45,7 @@ use Rattle.guarantees.specs.Runs.{Event, byte, next, reply, Taken}
 use Rattle.guarantees.specs.Fit.{Fit}
 use Rattle.guarantees.specs.Entries.{reaches}
 use Rattle.guarantees.specs.Accepted.{partly, performs, right, inside, may, calling, saved-are, owners-are, powers-are, turns-are, lists-are, done-told, told-done, transfer-moves, moves-granted}
+use Rattle.guarantees.specs.Met.{had, startable}
 use Rattle.guarantees.specs.Statements.{running, caller, arg, HandsOver, GivesBack, SwitchesOff, denied, HeededCall, HeededArrival, HeededOther, Heeded}
 
 -- only a hand-over to a world, or a finish, writes the world's numbers
@@ -205,6 +206,9 @@ module _ (m : Machine) (fit : Fit m) (e : Event) (core : ℕ) (is : e .0 ≡ Fra
               inside = λ page h k. rw (owners-are m fit e core is t) (Effects.moved-inside s core xs (g .first) count to (g .moves) page (r .whole .owners-whole) h k .1);
               outside = λ page n. rw (owners-are m fit e core is t) (Effects.moved-outside s core xs (g .first) count to (g .moves) page n);
             };
+        move-owned = λ start count to a z.
+            let g = transfer-moves m fit e core is t start count to a z in
+            had m core xs (r .window) start count (g .first) to (g .lies) (g .moves);
         owners-stay = λ n.
             owners-are m fit e core is t ∙ Effects.owners-spared s core xs (carries deed (λ first count to d.
             let v = moves-granted m fit e core is t first count to d in
@@ -228,6 +232,9 @@ module _ (m : Machine) (fit : Fit m) (e : Event) (core : ℕ) (is : e .0 ≡ Fra
         start-done = λ a z.
             rw (powers-are m fit e core is t) (Left.power-started s core xs (arg m core xs 1) (arg m core xs 2) (arg m core xs 3)
             (told-done m fit e core is t (λ (d : Deed). d ≡ Start (arg m core xs 1) (arg m core xs 2) (arg m core xs 3)) (asked-start (sight s core) xs a) z) (r .whole .powers-whole) (r .most-cores));
+        start-ready = λ a z.
+            startable m core xs (arg m core xs 1) (arg m core xs 2) (arg m core xs 3)
+            (told-done m fit e core is t (λ (d : Deed). d ≡ Start (arg m core xs 1) (arg m core xs 2) (arg m core xs 3)) (asked-start (sight s core) xs a) z);
         off-done = λ a. rw (powers-are m fit e core is t) (Left.power-off s core xs (goes-off a) (r .whole .powers-whole) i (performs m fit e core is t .on));
         power-stays = λ k a b.
             rw (powers-are m fit e core is t) (Left.power-spared s core xs k
