@@ -9,6 +9,7 @@ use lib.ListN.{length, getD}
 use Rattle.rules.specs.Choice.{pick}
 use Rattle.rules.specs.declared.Reason.{Reason}
 use Rattle.ledger.specs.Ledger.{handler}
+use Rattle.ledger.specs.declared.Lookup.the-variants.{Nobody}
 use Rattle.identifiers.specs.Identifier.{bits, admitted, argument}
 use Rattle.registers.specs.Registers.{saved, saving}
 use Rattle.registers.specs.declared.Shown.{Shown}
@@ -90,6 +91,8 @@ pub record Guaranteed (m : Machine) (run : Events) (last : Machine) (answers : L
   pub exact : (world x : ℕ) (n : Mapping) → deciding (mapped last world) x ≡ some n → leadOf (mapped last world) x ≡ To (n .phys + (x - n .virt)) (n .attr)
   -- A core that is ON runs Normal, Secure or Realm.
   pub runs : (core : ℕ) → isOn (power (last .powers) core) ≡ true → Calls (turn (last .turns) core .world)
+  -- Where it runs Secure or Realm, a hand-over is open there.
+  pub open-away : (core : ℕ) → isOn (power (last .powers) core) ≡ true → Takes (turn (last .turns) core .world) → turn (last .turns) core .is_open ≡ true
   -- Once set-up has said how many cores there are, no other is ON or pending.
   pub absent : (core : ℕ) → ready (last .setup) ≡ true → cores (last .setup) ≤ core → (isOn (power (last .powers) core) ≡ false) × (isPending (power (last .powers) core) ≡ false)
   -- Before that nothing has happened.
@@ -206,6 +209,8 @@ module _ (m : Machine) (core : ℕ) (xs : List ℕ) where
       -- A call that passes that test is judged by the handler that the ledger has for its type and owner, or by none.
       pub dispatched : admitted (calledBy xs) ≡ true
           → judgedIn (stateOf m) core xs ≡ found (sight (stateOf m) core .inner) (argsOf (calledBy xs) xs) (key xs) (handler (m .ledger) (calledBy xs .fast) (calledBy xs .owner))
+      -- A call for whose type and owner it has none is refused with -1.
+      pub unserved : handler (m .ledger) (calledBy xs .fast) (calledBy xs .owner) ≡ Nobody → last ≡ denied 1
       -- A call that is refused for a reason leaves the machine of that refusal.
       pub refused : (r : Reason) → answerIn (stateOf m) core xs ≡ No r → last ≡ denied (minus r)
       -- ---- what its caller finds
@@ -235,6 +240,8 @@ module _ (m : Machine) (core : ℕ) (xs : List ℕ) where
       pub handed : (to j : ℕ) → HandsOver to → j < 8 → number last core to j ≡ getD xs j 0
       pub handed-rest : (to j : ℕ) → HandsOver to → 8 ≤ j → number last core to j ≡ number m core to j
       pub handed-others : (to w j : ℕ) → HandsOver to → (caller ≡ w → ⊥) → (to ≡ w → ⊥) → number last core w j ≡ number m core w j
+      -- Secure's finish and Realm's are never refused: a hand-over is open where they run.
+      pub finish-open : GivesBack → (r : Reason) → answerIn (stateOf m) core xs ≡ No r → ⊥
       -- After a finish Normal runs; its x0 and on are the finisher's x1 and on, as many as that world returns, its other numbers stay, and so do a third world's.
       pub finished-runs : GivesBack → running last core ≡ normal
       pub finished : (j : ℕ) → GivesBack → j < returned caller → number last core normal j ≡ getD xs (1 + j) 0

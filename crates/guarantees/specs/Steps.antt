@@ -12,6 +12,8 @@ use Rattle.rules.specs.Reasons.{minus}
 use Rattle.rules.specs.declared.Reason.{Reason}
 use Rattle.rules.specs.declared.Reason.the-variants as Reason
 use Rattle.identifiers.specs.Identifier.{bits, identifierOf, parts, admitted}
+use Rattle.ledger.specs.Ledger.{handler}
+use Rattle.ledger.specs.declared.Lookup.the-variants.{Nobody}
 use Rattle.registers.specs.Registers.{Whole, saved, shownOf}
 use Rattle.cores.specs.Power.{powerOf, on, isPending}
 use Rattle.cores.specs.Cores.{power}
@@ -19,11 +21,11 @@ use Rattle.ranges.specs.declared.Mapping.{Mapping}
 use Rattle.mapping.specs.Lists.{held}
 use Rattle.mapping.specs.Sound.{granted-formed}
 use Rattle.rules.specs.Sizes.{normal, mostCores}
-use Rattle.judgements.specs.Judge.{calledBy, argsOf, wanted}
+use Rattle.judgements.specs.Judge.{calledBy, argsOf, found, wanted}
 use Rattle.judgements.specs.Asked.{Finishes, by-secure, by-realm, called-for, leads-asked, judged-reserved}
 use Rattle.judgements.specs.Decided.{asked-map, asked-unmap, asked-start, asked-off, asked-hand-over, asked-finish, asked-where, asked-count}
 use Rattle.judgements.specs.Grounds.{grounded}
-use Rattle.judgements.specs.declared.Answer.the-variants.{No}
+use Rattle.judgements.specs.declared.Answer.the-variants.{No, Silent}
 use Rattle.judgements.specs.declared.Deed.{Deed}
 use Rattle.judgements.specs.declared.Deed.the-variants.{Nothing, Move, Map, Unmap, Start, GoOff, HandOver, Finish}
 use Rattle.judgements.specs.declared.Judged.{Judged}
@@ -134,6 +136,14 @@ module _ (m : Machine) (fit : Fit m) (e : Event) (core : ℕ) (is : e .0 ≡ Fra
       ∙ ap (λ (s : State). record { setup = over (m .setup); named = m .named; ledger = s .ledger; owners = s .owners; saved = s .saved; powers = s .powers; turns = s .turns; lists = s .lists })
       (Effects.refused s core xs r a)
 
+  -- a call that no handler judges, whether or not it passes the test on bits 23 to 16
+  nobody-answers : handler (m .ledger) (calledBy xs .fast) (calledBy xs .owner) ≡ Nobody → answerIn s core xs ≡ No Reason.Unserved
+  unfolding found
+  nobody-answers n =
+      either (admitted (calledBy xs))
+      (λ y. ap (λ (j : Judged). j .answer) (reaches s core xs (right m fit e core is t .running core (inside m fit e core is t) .world) y) ∙ rw n)
+      (λ y. ap (λ (j : Judged). j .answer) (judged-reserved (sight s core) xs y))
+
   shows : reply m e ≡ shownIn core (stateOf (next m e))
   unfolding performed
   shows =
@@ -168,6 +178,7 @@ module _ (m : Machine) (fit : Fit m) (e : Event) (core : ℕ) (is : e .0 ≡ Fra
         set-up-ends = ends;
         reserved = λ fast some. refuses Reason.Unserved (ap (λ (j : Judged). j .answer) (judged-reserved (sight s core) xs (reserved-fails xs fast some)));
         dispatched = λ ok. reaches s core xs (r .running core i .world) ok;
+        unserved = λ n. refuses Reason.Unserved (nobody-answers n);
         refused = refuses;
         results = λ j h. rw numbers (Effects.own-results s core xs j whole i c h);
         unlisted = λ j h k. rw numbers (Effects.own-frame s core xs j whole i c (omega arith) (omega arith) h);
@@ -194,6 +205,11 @@ module _ (m : Machine) (fit : Fit m) (e : Event) (core : ℕ) (is : e .0 ≡ Fra
         handed = λ to j a h. rw numbers (Effects.handed-numbers s core xs to (hands to a) j whole i l h);
         handed-rest = λ to j a h. rw numbers (Effects.handed-rest s core xs to (hands to a) j (omega arith));
         handed-others = λ to w j a n k. spares core w j (λ q. n) (λ q (u : Receives deed w). k (rw (hands to a) at u));
+        finish-open = λ a q k.
+            let y = called-for (sight s core) xs Finish (λ k. let z : _≡_ {A = ℕ} 0 1 = cc in omega arith) (gives-back a) .so .1 in
+            let z : Silent ≡ No q = sym y ∙ k in
+            let w : _≡_ {A = ℕ} 0 1 = cc in
+            omega arith;
         finished-runs = λ a. rw (turns-are m fit e core is t, running) (Left.finished-runs s core xs (gives-back a) (r .whole .turns-whole) i);
         finished = λ j a h. rw numbers (Effects.finished-numbers s core xs (gives-back a) j whole i l h);
         finished-rest = λ j a h. rw numbers (Effects.finished-rest s core xs (gives-back a) j h);
