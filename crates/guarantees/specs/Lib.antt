@@ -7,6 +7,7 @@ pub mod Owners
 pub mod Started
 pub mod Statements
 pub mod Met
+pub mod Counted
 pub mod Steps
 pub mod After
 pub mod Printed

@@ -24,7 +24,7 @@ use Rattle.judgements.specs.declared.Deed.the-variants.{Move, Start}
 use Rattle.calls.specs.Step.{State, sight}
 use Rattle.calls.specs.Effects.{deedIn, moves}
 use Rattle.frames.specs.Frames.{Machine, stateOf}
-use Rattle.guarantees.specs.Statements.{window, ownerIn, mapped, caller, giver, Had, Startable}
+use Rattle.guarantees.specs.Statements.{window, mapped, caller, giver, Had, Startable}
 
 -- ---- a place that this owner has
 record OwnedPlace (o : List ℕ) (p : Place) : Type 0 where

@@ -3,7 +3,7 @@ use mathlib.Core.Path.{_≡_}
 use mathlib.Core.Bool.{true, false}
 use mathlib.Core.List.{List, [], _∷_, _++_}
 use mathlib.Core.Option.{some}
-use Prim.Native.Nat.{ℕ, _+_, _-_, _%_, _≤_, _<_}
+use Prim.Native.Nat.{ℕ, zero, suc, _+_, _-_, _%_, _≤_, _<_}
 use lib.Dec.{eqb}
 use lib.ListN.{length, getD}
 use Rattle.rules.specs.Choice.{pick}
@@ -14,7 +14,7 @@ use Rattle.identifiers.specs.Identifier.{bits, admitted, argument}
 use Rattle.registers.specs.Registers.{saved, saving}
 use Rattle.registers.specs.declared.Shown.{Shown}
 use Rattle.cores.specs.Power.{powerOf, put, off, pending, on, isOn, isPending}
-use Rattle.cores.specs.Cores.{power, turn, onCount}
+use Rattle.cores.specs.Cores.{power, turn}
 use Rattle.pages.specs.Window.{runOf, InPage}
 use Rattle.pages.specs.Owners.{owner, countOwned}
 use Rattle.pages.specs.declared.Window.{Window}
@@ -123,6 +123,11 @@ running m core = turn (m .turns) core .world
 abbrev pub number : Machine → ℕ → ℕ → ℕ → ℕ
 number m core world j = saved (m .saved) core world j
 
+-- how many of the cores below n are ON
+unfoldable pub onBelow : Machine → ℕ → ℕ
+onBelow m zero = 0
+onBelow m (suc n) = pick (isOn (power (m .powers) n)) 1 0 + onBelow m n
+
 -- a run of pages inside the window is another owner's now, each page of it and no other
 pub record Given (m last : Machine) (start count to : ℕ) : Type 0 where
   pub first : ℕ
@@ -226,8 +231,8 @@ module _ (m : Machine) (core : ℕ) (xs : List ℕ) where
       pub not-written : (j : ℕ) → 0 < j → j < 8 → (Is 1 0xC2000022 → x 0 ≡ 0 → j ≤ 2 → ⊥) → x j ≡ getD xs j 0
       -- These are where its address leads, by the caller's list.
       pub where-told : Is 1 0xC2000022 → x 0 ≡ 0 → leadOf (mapped m caller) (arg 1) ≡ To (x 1) (x 2)
-      -- C2000030 is answered with the number of cores that are ON.
-      pub count-told : Is 1 0xC2000030 → x 0 ≡ onCount (m .powers)
+      -- C2000030 is answered with the number of cores, of the eight, that are ON.
+      pub count-told : Is 1 0xC2000030 → x 0 ≡ onBelow m 8
       -- ---- what others find
       -- No number of another core changes, nor does what runs there.
       pub other-cores : (c w j : ℕ) → (core ≡ c → ⊥) → number last c w j ≡ number m c w j

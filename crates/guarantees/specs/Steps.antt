@@ -47,6 +47,7 @@ use Rattle.guarantees.specs.Runs.{Event, byte, next, reply, Taken}
 use Rattle.guarantees.specs.Fit.{Fit}
 use Rattle.guarantees.specs.Entries.{reaches}
 use Rattle.guarantees.specs.Accepted.{partly, performs, right, inside, may, calling, saved-are, owners-are, powers-are, turns-are, lists-are, done-told, told-done, transfer-moves, moves-granted}
+use Rattle.guarantees.specs.Counted.{on-counted}
 use Rattle.guarantees.specs.Met.{had, startable}
 use Rattle.guarantees.specs.Statements.{running, caller, arg, HandsOver, GivesBack, SwitchesOff, denied, HeededCall, HeededArrival, HeededOther, Heeded}
 
@@ -196,7 +197,7 @@ module _ (m : Machine) (fit : Fit m) (e : Event) (core : ℕ) (is : e .0 ≡ Fra
         where-told = λ a z. Left.zero-leads s core xs whole i c _ (asked-where (sight s core) xs a) (rw numbers at z) ∙ rw numbers;
         count-told = λ a.
             let b = asked-count (sight s core) xs (may m fit e core is t) a in
-            rw numbers (Effects.own-results s core xs 0 whole i c (rw b (omega arith)) ∙ rw b);
+            rw numbers (Effects.own-results s core xs 0 whole i c (rw b (omega arith)) ∙ rw b (on-counted m));
         other-cores = λ c w j n. spares c w j (λ k. absurd (n k)) (λ k. absurd (n k));
         other-turns = λ c n. rw (turns-are m fit e core is t) (Left.turns-others s core xs c n);
         other-worlds = λ w j n h f. spares core w j (λ k. n) (λ k. received deed w (λ to d. h to (hands-asked to d)) (λ d. f (gives-back-asked d)));
