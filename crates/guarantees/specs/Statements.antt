@@ -246,7 +246,7 @@ module _ (m : Machine) (core : ℕ) (xs : List ℕ) where
       pub handed-rest : (to j : ℕ) → HandsOver to → 8 ≤ j → number last core to j ≡ number m core to j
       pub handed-others : (to w j : ℕ) → HandsOver to → (caller ≡ w → ⊥) → (to ≡ w → ⊥) → number last core w j ≡ number m core w j
       -- Secure's finish and Realm's are never refused: a hand-over is open where they run.
-      pub finish-open : GivesBack → (r : Reason) → answerIn (stateOf m) core xs ≡ No r → ⊥
+      pub finish-open : (n : ℕ) → GivesBack → last ≡ denied n → ⊥
       -- After a finish Normal runs; its x0 and on are the finisher's x1 and on, as many as that world returns, its other numbers stay, and so do a third world's.
       pub finished-runs : GivesBack → running last core ≡ normal
       pub finished : (j : ℕ) → GivesBack → j < returned caller → number last core normal j ≡ getD xs (1 + j) 0

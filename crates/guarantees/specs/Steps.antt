@@ -25,7 +25,7 @@ use Rattle.judgements.specs.Judge.{calledBy, argsOf, found, wanted}
 use Rattle.judgements.specs.Asked.{Finishes, by-secure, by-realm, called-for, leads-asked, judged-reserved}
 use Rattle.judgements.specs.Decided.{asked-map, asked-unmap, asked-start, asked-off, asked-hand-over, asked-finish, asked-where, asked-count}
 use Rattle.judgements.specs.Grounds.{grounded}
-use Rattle.judgements.specs.declared.Answer.the-variants.{No, Silent}
+use Rattle.judgements.specs.declared.Answer.the-variants.{No}
 use Rattle.judgements.specs.declared.Deed.{Deed}
 use Rattle.judgements.specs.declared.Deed.the-variants.{Nothing, Move, Map, Unmap, Start, GoOff, HandOver, Finish}
 use Rattle.judgements.specs.declared.Judged.{Judged}
@@ -158,6 +158,10 @@ module _ (m : Machine) (fit : Fit m) (e : Event) (core : ℕ) (is : e .0 ≡ Fra
       by-reply (Told why) k = absurd (t why k)
       by-reply (Called core world x) k = call-ends m (e .0) (e .1) core world x k
 
+  back-runs : GivesBack m core xs → running (next m e) core ≡ normal
+  back-runs a =
+      rw (turns-are m fit e core is t, running) (Left.finished-runs s core xs (gives-back a) (right m fit e core is t .whole .turns-whole) (inside m fit e core is t))
+
   -- a mapping that is made has some size
   some-size : (n : Mapping) → deed ≡ Map n → n .size ≡ 0 → ⊥
   some-size n d z =
@@ -206,12 +210,8 @@ module _ (m : Machine) (fit : Fit m) (e : Event) (core : ℕ) (is : e .0 ≡ Fra
         handed = λ to j a h. rw numbers (Effects.handed-numbers s core xs to (hands to a) j whole i l h);
         handed-rest = λ to j a h. rw numbers (Effects.handed-rest s core xs to (hands to a) j (omega arith));
         handed-others = λ to w j a n k. spares core w j (λ q. n) (λ q (u : Receives deed w). k (rw (hands to a) at u));
-        finish-open = λ a q k.
-            let y = called-for (sight s core) xs Finish (λ k. let z : _≡_ {A = ℕ} 0 1 = cc in omega arith) (gives-back a) .so .1 in
-            let z : Silent ≡ No q = sym y ∙ k in
-            let w : _≡_ {A = ℕ} 0 1 = cc in
-            omega arith;
-        finished-runs = λ a. rw (turns-are m fit e core is t, running) (Left.finished-runs s core xs (gives-back a) (r .whole .turns-whole) i);
+        finish-open = λ n a k. finisher (a .so) (sym (ap (λ (q : Machine). running q core) k) ∙ back-runs a);
+        finished-runs = back-runs;
         finished = λ j a h. rw numbers (Effects.finished-numbers s core xs (gives-back a) j whole i l h);
         finished-rest = λ j a h. rw numbers (Effects.finished-rest s core xs (gives-back a) j h);
         finished-others = λ w j a n k. spares core w j (λ q. n) (λ q (u : Receives deed w). k (rw (gives-back a) at u));

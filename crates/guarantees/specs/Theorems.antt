@@ -16,7 +16,7 @@ use Rattle.cores.specs.Power.{powerOf, off, on}
 use Rattle.cores.specs.declared.Turn.{Turn}
 use Rattle.cores.specs.Cores.{power, first-power-zero, first-power-other, first-turn}
 use Rattle.pages.specs.Owners.{unowned-owner}
-use Rattle.rules.specs.Sizes.{normal, mostCores}
+use Rattle.rules.specs.Sizes.{normal}
 use Rattle.judgements.specs.Judge.{calledBy, argsOf, found}
 use Rattle.calls.specs.Step.{sight, judgedIn}
 use Rattle.hex.specs.Hex.{value, inHex}
@@ -94,7 +94,7 @@ zero-first = first-power-zero
 pub others-first : (core : ℕ) → (core ≡ 0 → ⊥) → power (first .powers) core ≡ powerOf off 0 0
 others-first = first-power-other
 
-pub normal-first : (core : ℕ) → core < mostCores → running first core ≡ normal
+pub normal-first : (core : ℕ) → core < 8 → running first core ≡ normal
 normal-first core h = ap (λ (t : Turn). t .world) (first-turn core h)
 
 -- ---- from any accepted set-up on
