@@ -11,7 +11,7 @@ use Rattle.rules.specs.Choice.{pick-yes, pick-no, either}
 use Rattle.rules.specs.declared.Reason.{Reason}
 use Rattle.registers.specs.Registers.{Whole, saved, saving, saving-at, saving-past, saving-other}
 use Rattle.cores.specs.Power.{put, on, isPending, arrived-pending, entered}
-use Rattle.cores.specs.Cores.{WholePowers, WholeTurns, power, withPower, turn, withTurn, power-same, power-other, turn-same}
+use Rattle.cores.specs.Cores.{WholePowers, WholeTurns, power, withPower, turn, withTurn, power-same, power-other, turn-same, turn-other}
 use Rattle.cores.specs.declared.Turn.{Turn}
 use Rattle.rules.specs.Sizes.{lastWorld, mostCores}
 use Rattle.pages.specs.Owners.{WholeOwners, owner, given-outside}
@@ -272,6 +272,11 @@ module _ (s : State) (core : ℕ) where
   pub arrival-powers : (c : ℕ) → (c ≡ core → ⊥) → power (afterArrival s core .powers) c ≡ power (s .powers) c
   arrival-powers c n =
       arrival-by (λ (q : State). power (q .powers) c ≡ power (s .powers) c) refl (λ y. power-other (s .powers) core (put (power (s .powers) core) on) c n)
+
+  -- And what runs there.
+  pub arrival-turns : (c : ℕ) → (c ≡ core → ⊥) → turn (afterArrival s core .turns) c ≡ turn (s .turns) c
+  arrival-turns c n =
+      arrival-by (λ (q : State). turn (q .turns) c ≡ turn (s .turns) c) refl (λ y. turn-other (s .turns) core (entered (turn (s .turns) core)) c n)
 
   module _ (y : isPending (power (s .powers) core) ≡ true) (h : core < mostCores) where
     -- A core that arrives finds the context in x0, zero in x1 to x7, and then its start address.

@@ -8,7 +8,7 @@ use lib.ListN.{length, getD}
 use Rattle.rules.specs.declared.Reason.{Reason}
 use Rattle.registers.specs.Registers.{Whole, saved}
 use Rattle.cores.specs.Power.{powerOf, put, pending, off, isOn, started, started-off, goneOff, gone-off-on, handed, finished}
-use Rattle.cores.specs.Cores.{WholePowers, WholeTurns, power, turn, power-same, power-other, turn-same}
+use Rattle.cores.specs.Cores.{WholePowers, WholeTurns, power, turn, power-same, power-other, turn-same, turn-other}
 use Rattle.cores.specs.declared.Turn.{Turn}
 use Rattle.pages.specs.Window.{acceptable}
 use Rattle.mapping.specs.Lists.{WholeLists, held, holding-inserts, holding-other, released-takes, released-other}
@@ -121,6 +121,16 @@ turns-by GoOff s core caller xs h f = refl
 turns-by (HandOver to) s core caller xs h f = absurd (h to refl)
 turns-by Finish s core caller xs h f = absurd (f refl)
 
+others-turns : (d : Deed) (s : State) (core caller : ℕ) (xs : List ℕ) (c : ℕ) → (c ≡ core → ⊥) → turn (carriedIn d s core caller xs .turns) c ≡ turn (s .turns) c
+others-turns Nothing s core caller xs c n = refl
+others-turns (Move first count to) s core caller xs c n = refl
+others-turns (Map m) s core caller xs c n = refl
+others-turns (Unmap virt size) s core caller xs c n = refl
+others-turns (Start k a x) s core caller xs c n = refl
+others-turns GoOff s core caller xs c n = refl
+others-turns (HandOver to) s core caller xs c n = turn-other (s .turns) core (handed (turn (s .turns) core) to) c n
+others-turns Finish s core caller xs c n = turn-other (s .turns) core (finished (turn (s .turns) core)) c n
+
 module _ (s : State) (core : ℕ) (xs : List ℕ) where
   -- A granted mapping stands in the caller's list, which else is as it was.
   pub list-mapped : (m : Mapping) → deedIn s core xs ≡ Map m → acceptable (s .site .window) ≡ true → WholeLists (s .lists) → callerOf s core < 4
@@ -182,3 +192,8 @@ module _ (s : State) (core : ℕ) (xs : List ℕ) where
   pub turns-spared : ((to : ℕ) → deedIn s core xs ≡ HandOver to → ⊥) → (deedIn s core xs ≡ Finish → ⊥) → after s core xs .turns ≡ s .turns
   unfolding called applied
   turns-spared h f = turns-by (deedIn s core xs) (answeredAt s core xs) core (callerOf s core) xs h f
+
+  -- No call changes what runs on another core.
+  pub turns-others : (c : ℕ) → (c ≡ core → ⊥) → turn (after s core xs .turns) c ≡ turn (s .turns) c
+  unfolding called applied
+  turns-others c n = others-turns (deedIn s core xs) (answeredAt s core xs) core (callerOf s core) xs c n

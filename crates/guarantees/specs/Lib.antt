@@ -6,6 +6,8 @@ pub mod Accepted
 pub mod Owners
 pub mod Started
 pub mod Statements
+pub mod Met
+pub mod Counted
 pub mod Steps
 pub mod After
 pub mod Printed

@@ -3,17 +3,19 @@ use mathlib.Core.Path.{_≡_}
 use mathlib.Core.Bool.{true, false}
 use mathlib.Core.List.{List, [], _∷_, _++_}
 use mathlib.Core.Option.{some}
-use Prim.Native.Nat.{ℕ, _+_, _-_, _≤_, _<_}
+use Prim.Native.Nat.{ℕ, zero, suc, _+_, _-_, _%_, _≤_, _<_}
+use lib.Dec.{eqb}
 use lib.ListN.{length, getD}
 use Rattle.rules.specs.Choice.{pick}
 use Rattle.rules.specs.declared.Reason.{Reason}
 use Rattle.ledger.specs.Ledger.{handler}
+use Rattle.ledger.specs.declared.Lookup.the-variants.{Nobody}
 use Rattle.identifiers.specs.Identifier.{bits, admitted, argument}
 use Rattle.registers.specs.Registers.{saved, saving}
 use Rattle.registers.specs.declared.Shown.{Shown}
 use Rattle.cores.specs.Power.{powerOf, put, off, pending, on, isOn, isPending}
-use Rattle.cores.specs.Cores.{power, turn, onCount}
-use Rattle.pages.specs.Window.{runOf}
+use Rattle.cores.specs.Cores.{power, turn}
+use Rattle.pages.specs.Window.{runOf, InPage}
 use Rattle.pages.specs.Owners.{owner, countOwned}
 use Rattle.pages.specs.declared.Window.{Window}
 use Rattle.pages.specs.declared.Place.the-variants.{Page}
@@ -26,7 +28,7 @@ use Rattle.ranges.specs.declared.Mapping.{Mapping}
 use Rattle.mapping.specs.declared.Lead.the-variants.{To}
 use Rattle.rules.specs.Sizes.{normal}
 use Rattle.judgements.specs.Judge.{calledBy, argsOf, found}
-use Rattle.judgements.specs.Grounds.{Calls}
+use Rattle.judgements.specs.Grounds.{Calls, Takes}
 use Rattle.judgements.specs.declared.Answer.the-variants.{No}
 use Rattle.rules.specs.Reasons.{minus}
 use Rattle.answers.specs.Answers.{negative}
@@ -89,6 +91,8 @@ pub record Guaranteed (m : Machine) (run : Events) (last : Machine) (answers : L
   pub exact : (world x : ℕ) (n : Mapping) → deciding (mapped last world) x ≡ some n → leadOf (mapped last world) x ≡ To (n .phys + (x - n .virt)) (n .attr)
   -- A core that is ON runs Normal, Secure or Realm.
   pub runs : (core : ℕ) → isOn (power (last .powers) core) ≡ true → Calls (turn (last .turns) core .world)
+  -- Where it runs Secure or Realm, a hand-over is open there.
+  pub open-away : (core : ℕ) → isOn (power (last .powers) core) ≡ true → Takes (turn (last .turns) core .world) → turn (last .turns) core .is_open ≡ true
   -- Once set-up has said how many cores there are, no other is ON or pending.
   pub absent : (core : ℕ) → ready (last .setup) ≡ true → cores (last .setup) ≤ core → (isOn (power (last .powers) core) ≡ false) × (isPending (power (last .powers) core) ≡ false)
   -- Before that nothing has happened.
@@ -119,12 +123,35 @@ running m core = turn (m .turns) core .world
 abbrev pub number : Machine → ℕ → ℕ → ℕ → ℕ
 number m core world j = saved (m .saved) core world j
 
+-- how many of the cores below n are ON
+unfoldable pub onBelow : Machine → ℕ → ℕ
+onBelow m zero = 0
+onBelow m (suc n) = pick (isOn (power (m .powers) n)) 1 0 + onBelow m n
+
 -- a run of pages inside the window is another owner's now, each page of it and no other
 pub record Given (m last : Machine) (start count to : ℕ) : Type 0 where
   pub first : ℕ
   pub lies : runOf (window m) start count ≡ Page first
   pub inside : (page : ℕ) → first ≤ page → page < first + count → ownerIn last page ≡ to
   pub outside : (page : ℕ) → (first ≤ page → page < first + count → ⊥) → ownerIn last page ≡ ownerIn m page
+
+-- a run of some pages inside the window is all this world's, which has mapped no page of it
+pub record Had (m : Machine) (world start count : ℕ) : Type 0 where
+  pub some : 0 < count
+  pub first : ℕ
+  pub lies : runOf (window m) start count ≡ Page first
+  pub owned : (page : ℕ) → first ≤ page → page < first + count → ownerIn m page ≡ world
+  pub unmapped : (page : ℕ) → first ≤ page → page < first + count → covers (window m) (mapped m world) page ≡ false
+
+-- a core of the board that is neither ON nor pending, and an address to start it at: a multiple of 4 in a page of Normal's
+pub record Startable (m : Machine) (core address : ℕ) : Type 0 where
+  pub exists : core < cores (m .setup)
+  pub not-on : isOn (power (m .powers) core) ≡ false
+  pub not-pending : isPending (power (m .powers) core) ≡ false
+  pub fourth : address % 4 ≡ 0
+  pub page : ℕ
+  pub inside : InPage (window m) address page
+  pub owned : ownerIn m page ≡ normal
 
 -- ---- a call on a core with its numbers x0 to x7
 module _ (m : Machine) (core : ℕ) (xs : List ℕ) where
@@ -134,6 +161,10 @@ module _ (m : Machine) (core : ℕ) (xs : List ℕ) where
 
   abbrev pub arg : ℕ → ℕ
   arg i = argument (calledBy xs) (getD xs i 0)
+
+  -- who gives pages to a world: the caller to Normal, and Normal to the caller
+  abbrev pub giver : ℕ → ℕ
+  giver to = pick (eqb to normal) caller normal
 
   -- what the call is: it passes the test on bits 23 to 16, reaches this handler and has this identifier
   abbrev pub Is : ℕ → ℕ → Type 0
@@ -168,6 +199,9 @@ module _ (m : Machine) (core : ℕ) (xs : List ℕ) where
     shown world = record { x0 = number last core world 0; x1 = number last core world 1; x2 = number last core world 2; x3 = number last core world 3 }
 
     pub record HeededCall (answer : Reply) : Type 0 where
+      -- The core that called is one of the board's, and was ON.
+      pub exists : core < cores (m .setup)
+      pub was-on : isOn (power (m .powers) core) ≡ true
       -- Where the core is then ON, the answer is the core, the world that runs there and that world's x0 to x3,
       pub shown-on : isOn (power (last .powers) core) ≡ true → answer ≡ Called core (running last core) (shown (running last core))
       -- and where it is not, the core, 255 and Normal's.
@@ -180,6 +214,8 @@ module _ (m : Machine) (core : ℕ) (xs : List ℕ) where
       -- A call that passes that test is judged by the handler that the ledger has for its type and owner, or by none.
       pub dispatched : admitted (calledBy xs) ≡ true
           → judgedIn (stateOf m) core xs ≡ found (sight (stateOf m) core .inner) (argsOf (calledBy xs) xs) (key xs) (handler (m .ledger) (calledBy xs .fast) (calledBy xs .owner))
+      -- A call for whose type and owner it has none is refused with -1.
+      pub unserved : handler (m .ledger) (calledBy xs .fast) (calledBy xs .owner) ≡ Nobody → last ≡ denied 1
       -- A call that is refused for a reason leaves the machine of that refusal.
       pub refused : (r : Reason) → answerIn (stateOf m) core xs ≡ No r → last ≡ denied (minus r)
       -- ---- what its caller finds
@@ -195,11 +231,12 @@ module _ (m : Machine) (core : ℕ) (xs : List ℕ) where
       pub not-written : (j : ℕ) → 0 < j → j < 8 → (Is 1 0xC2000022 → x 0 ≡ 0 → j ≤ 2 → ⊥) → x j ≡ getD xs j 0
       -- These are where its address leads, by the caller's list.
       pub where-told : Is 1 0xC2000022 → x 0 ≡ 0 → leadOf (mapped m caller) (arg 1) ≡ To (x 1) (x 2)
-      -- C2000030 is answered with the number of cores that are ON.
-      pub count-told : Is 1 0xC2000030 → x 0 ≡ onCount (m .powers)
+      -- C2000030 is answered with the number of cores, of the eight, that are ON.
+      pub count-told : Is 1 0xC2000030 → x 0 ≡ onBelow m 8
       -- ---- what others find
-      -- No number of another core changes.
+      -- No number of another core changes, nor does what runs there.
       pub other-cores : (c w j : ℕ) → (core ≡ c → ⊥) → number last c w j ≡ number m c w j
+      pub other-turns : (c : ℕ) → (c ≡ core → ⊥) → turn (last .turns) c ≡ turn (m .turns) c
       -- Except for a hand-over or a finish, no number of another world changes, and the same world runs.
       pub other-worlds : (w j : ℕ) → (caller ≡ w → ⊥) → ((to : ℕ) → HandsOver to → ⊥) → (GivesBack → ⊥) → number last core w j ≡ number m core w j
       pub same-runs : ((to : ℕ) → HandsOver to → ⊥) → (GivesBack → ⊥) → last .turns ≡ m .turns
@@ -208,14 +245,19 @@ module _ (m : Machine) (core : ℕ) (xs : List ℕ) where
       pub handed : (to j : ℕ) → HandsOver to → j < 8 → number last core to j ≡ getD xs j 0
       pub handed-rest : (to j : ℕ) → HandsOver to → 8 ≤ j → number last core to j ≡ number m core to j
       pub handed-others : (to w j : ℕ) → HandsOver to → (caller ≡ w → ⊥) → (to ≡ w → ⊥) → number last core w j ≡ number m core w j
+      -- Secure's finish and Realm's are never refused: a hand-over is open where they run.
+      pub finish-open : (n : ℕ) → GivesBack → last ≡ denied n → ⊥
       -- After a finish Normal runs; its x0 and on are the finisher's x1 and on, as many as that world returns, its other numbers stay, and so do a third world's.
       pub finished-runs : GivesBack → running last core ≡ normal
       pub finished : (j : ℕ) → GivesBack → j < returned caller → number last core normal j ≡ getD xs (1 + j) 0
       pub finished-rest : (j : ℕ) → GivesBack → returned caller ≤ j → number last core normal j ≡ number m core normal j
       pub finished-others : (w j : ℕ) → GivesBack → (caller ≡ w → ⊥) → (normal ≡ w → ⊥) → number last core w j ≡ number m core w j
       -- ---- what is done, by what was asked and is answered
-      -- A transfer that is answered 0 gives the taker its whole run. No other call changes an owner.
+      -- A transfer that is answered 0 gives the taker its whole run.
       pub move-done : (start count to : ℕ) → AsksTransfer m core xs start count to → x 0 ≡ 0 → Given m last start count to
+      -- Its caller is Secure or Realm, and before it the whole run was the giver's and not mapped.
+      pub move-owned : (start count to : ℕ) → AsksTransfer m core xs start count to → x 0 ≡ 0 → Takes caller × Had m (giver to) start count
+      -- No other call changes an owner.
       pub owners-stay : ((start count to : ℕ) → AsksTransfer m core xs start count to → x 0 ≡ 0 → ⊥) → last .owners ≡ m .owners
       -- A map of some size that is answered 0 puts its mapping into the caller's list, which else is as it was.
       pub map-done : Is 1 0xC2000020 → x 0 ≡ 0 → (arg 3 ≡ 0 → ⊥)
@@ -227,6 +269,8 @@ module _ (m : Machine) (core : ℕ) (xs : List ℕ) where
       pub other-lists : (w : ℕ) → (w ≡ caller → ⊥) → mapped last w ≡ mapped m w
       -- A start that is answered 0 leaves core x1 pending, with x2 and x3 as they were read.
       pub start-done : AsksStart m core xs → x 0 ≡ 0 → power (last .powers) (arg 1) ≡ powerOf pending (arg 2) (arg 3)
+      -- Its caller is Normal, and before it that core could be started at x2.
+      pub start-ready : AsksStart m core xs → x 0 ≡ 0 → (caller ≡ normal) × Startable m (arg 1) (arg 2)
       -- A core that is switched off is OFF. No other call changes a core's power.
       pub off-done : SwitchesOff → power (last .powers) core ≡ put (power (m .powers) core) off
       pub power-stays : (c : ℕ) → (AsksStart m core xs → x 0 ≡ 0 → c ≡ arg 1 → ⊥) → (SwitchesOff → c ≡ core → ⊥) → power (last .powers) c ≡ power (m .powers) c
@@ -241,9 +285,10 @@ pub record HeededArrival (m : Machine) (core : ℕ) (last : Machine) : Type 0 wh
   pub context : number last core normal 0 ≡ power (m .powers) core .context
   pub zeros : (j : ℕ) → 0 < j → j < 8 → number last core normal j ≡ 0
   pub start : number last core normal 8 ≡ power (m .powers) core .start
-  -- No other number changes, and no other core's power.
+  -- No other number changes, and on no other core its power, or what runs there.
   pub other-numbers : (c w j : ℕ) → (core ≡ c → normal ≡ w → ⊥) → number last c w j ≡ number m c w j
   pub other-power : (c : ℕ) → (c ≡ core → ⊥) → power (last .powers) c ≡ power (m .powers) c
+  pub other-turns : (c : ℕ) → (c ≡ core → ⊥) → turn (last .turns) c ≡ turn (m .turns) c
   -- Nor do owners and mappings.
   pub owners-stay : last .owners ≡ m .owners
   pub lists-stay : last .lists ≡ m .lists

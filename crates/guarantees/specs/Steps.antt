@@ -12,6 +12,8 @@ use Rattle.rules.specs.Reasons.{minus}
 use Rattle.rules.specs.declared.Reason.{Reason}
 use Rattle.rules.specs.declared.Reason.the-variants as Reason
 use Rattle.identifiers.specs.Identifier.{bits, identifierOf, parts, admitted}
+use Rattle.ledger.specs.Ledger.{handler}
+use Rattle.ledger.specs.declared.Lookup.the-variants.{Nobody}
 use Rattle.registers.specs.Registers.{Whole, saved, shownOf}
 use Rattle.cores.specs.Power.{powerOf, on, isPending}
 use Rattle.cores.specs.Cores.{power}
@@ -19,7 +21,7 @@ use Rattle.ranges.specs.declared.Mapping.{Mapping}
 use Rattle.mapping.specs.Lists.{held}
 use Rattle.mapping.specs.Sound.{granted-formed}
 use Rattle.rules.specs.Sizes.{normal, mostCores}
-use Rattle.judgements.specs.Judge.{calledBy, argsOf, wanted}
+use Rattle.judgements.specs.Judge.{calledBy, argsOf, found, wanted}
 use Rattle.judgements.specs.Asked.{Finishes, by-secure, by-realm, called-for, leads-asked, judged-reserved}
 use Rattle.judgements.specs.Decided.{asked-map, asked-unmap, asked-start, asked-off, asked-hand-over, asked-finish, asked-where, asked-count}
 use Rattle.judgements.specs.Grounds.{grounded}
@@ -45,6 +47,8 @@ use Rattle.guarantees.specs.Runs.{Event, byte, next, reply, Taken}
 use Rattle.guarantees.specs.Fit.{Fit}
 use Rattle.guarantees.specs.Entries.{reaches}
 use Rattle.guarantees.specs.Accepted.{partly, performs, right, inside, may, calling, saved-are, owners-are, powers-are, turns-are, lists-are, done-told, told-done, transfer-moves, moves-granted}
+use Rattle.guarantees.specs.Counted.{on-counted}
+use Rattle.guarantees.specs.Met.{had, startable}
 use Rattle.guarantees.specs.Statements.{running, caller, arg, HandsOver, GivesBack, SwitchesOff, denied, HeededCall, HeededArrival, HeededOther, Heeded}
 
 -- only a hand-over to a world, or a finish, writes the world's numbers
@@ -133,6 +137,14 @@ module _ (m : Machine) (fit : Fit m) (e : Event) (core : ℕ) (is : e .0 ≡ Fra
       ∙ ap (λ (s : State). record { setup = over (m .setup); named = m .named; ledger = s .ledger; owners = s .owners; saved = s .saved; powers = s .powers; turns = s .turns; lists = s .lists })
       (Effects.refused s core xs r a)
 
+  -- a call that no handler judges, whether or not it passes the test on bits 23 to 16
+  nobody-answers : handler (m .ledger) (calledBy xs .fast) (calledBy xs .owner) ≡ Nobody → answerIn s core xs ≡ No Reason.Unserved
+  unfolding found
+  nobody-answers n =
+      either (admitted (calledBy xs))
+      (λ y. ap (λ (j : Judged). j .answer) (reaches s core xs (right m fit e core is t .running core (inside m fit e core is t) .world) y) ∙ rw n)
+      (λ y. ap (λ (j : Judged). j .answer) (judged-reserved (sight s core) xs y))
+
   shows : reply m e ≡ shownIn core (stateOf (next m e))
   unfolding performed
   shows =
@@ -145,6 +157,10 @@ module _ (m : Machine) (fit : Fit m) (e : Event) (core : ℕ) (is : e .0 ≡ Fra
       by-reply : (r : Reply) → reply m e ≡ r → ended (next m e .setup) ≡ true
       by-reply (Told why) k = absurd (t why k)
       by-reply (Called core world x) k = call-ends m (e .0) (e .1) core world x k
+
+  back-runs : GivesBack m core xs → running (next m e) core ≡ normal
+  back-runs a =
+      rw (turns-are m fit e core is t, running) (Left.finished-runs s core xs (gives-back a) (right m fit e core is t .whole .turns-whole) (inside m fit e core is t))
 
   -- a mapping that is made has some size
   some-size : (n : Mapping) → deed ≡ Map n → n .size ≡ 0 → ⊥
@@ -160,11 +176,14 @@ module _ (m : Machine) (fit : Fit m) (e : Event) (core : ℕ) (is : e .0 ≡ Fra
       let c = calling m fit e core is t in
       let numbers = saved-are m fit e core is t in
       record {
+        exists = performs m fit e core is t .exists;
+        was-on = performs m fit e core is t .on;
         shown-on = λ y. shows ∙ pick-yes _ _ _ y;
         shown-off = λ n. shows ∙ pick-no _ _ _ n;
         set-up-ends = ends;
         reserved = λ fast some. refuses Reason.Unserved (ap (λ (j : Judged). j .answer) (judged-reserved (sight s core) xs (reserved-fails xs fast some)));
         dispatched = λ ok. reaches s core xs (r .running core i .world) ok;
+        unserved = λ n. refuses Reason.Unserved (nobody-answers n);
         refused = refuses;
         results = λ j h. rw numbers (Effects.own-results s core xs j whole i c h);
         unlisted = λ j h k. rw numbers (Effects.own-frame s core xs j whole i c (omega arith) (omega arith) h);
@@ -182,15 +201,17 @@ module _ (m : Machine) (fit : Fit m) (e : Event) (core : ℕ) (is : e .0 ≡ Fra
         where-told = λ a z. Left.zero-leads s core xs whole i c _ (asked-where (sight s core) xs a) (rw numbers at z) ∙ rw numbers;
         count-told = λ a.
             let b = asked-count (sight s core) xs (may m fit e core is t) a in
-            rw numbers (Effects.own-results s core xs 0 whole i c (rw b (omega arith)) ∙ rw b);
+            rw numbers (Effects.own-results s core xs 0 whole i c (rw b (omega arith)) ∙ rw b (on-counted m));
         other-cores = λ c w j n. spares c w j (λ k. absurd (n k)) (λ k. absurd (n k));
+        other-turns = λ c n. rw (turns-are m fit e core is t) (Left.turns-others s core xs c n);
         other-worlds = λ w j n h f. spares core w j (λ k. n) (λ k. received deed w (λ to d. h to (hands-asked to d)) (λ d. f (gives-back-asked d)));
         same-runs = λ h f. turns-are m fit e core is t ∙ Left.turns-spared s core xs (λ to d. h to (hands-asked to d)) (λ d. f (gives-back-asked d));
         handed-runs = λ to a. rw (turns-are m fit e core is t, running) (Left.handed-runs s core xs to (hands to a) (r .whole .turns-whole) i);
         handed = λ to j a h. rw numbers (Effects.handed-numbers s core xs to (hands to a) j whole i l h);
         handed-rest = λ to j a h. rw numbers (Effects.handed-rest s core xs to (hands to a) j (omega arith));
         handed-others = λ to w j a n k. spares core w j (λ q. n) (λ q (u : Receives deed w). k (rw (hands to a) at u));
-        finished-runs = λ a. rw (turns-are m fit e core is t, running) (Left.finished-runs s core xs (gives-back a) (r .whole .turns-whole) i);
+        finish-open = λ n a k. finisher (a .so) (sym (ap (λ (q : Machine). running q core) k) ∙ back-runs a);
+        finished-runs = back-runs;
         finished = λ j a h. rw numbers (Effects.finished-numbers s core xs (gives-back a) j whole i l h);
         finished-rest = λ j a h. rw numbers (Effects.finished-rest s core xs (gives-back a) j h);
         finished-others = λ w j a n k. spares core w j (λ q. n) (λ q (u : Receives deed w). k (rw (gives-back a) at u));
@@ -202,6 +223,9 @@ module _ (m : Machine) (fit : Fit m) (e : Event) (core : ℕ) (is : e .0 ≡ Fra
               inside = λ page h k. rw (owners-are m fit e core is t) (Effects.moved-inside s core xs (g .first) count to (g .moves) page (r .whole .owners-whole) h k .1);
               outside = λ page n. rw (owners-are m fit e core is t) (Effects.moved-outside s core xs (g .first) count to (g .moves) page n);
             };
+        move-owned = λ start count to a z.
+            let g = transfer-moves m fit e core is t start count to a z in
+            had m core xs (r .window) start count (g .first) to (g .lies) (g .moves);
         owners-stay = λ n.
             owners-are m fit e core is t ∙ Effects.owners-spared s core xs (carries deed (λ first count to d.
             let v = moves-granted m fit e core is t first count to d in
@@ -225,6 +249,9 @@ module _ (m : Machine) (fit : Fit m) (e : Event) (core : ℕ) (is : e .0 ≡ Fra
         start-done = λ a z.
             rw (powers-are m fit e core is t) (Left.power-started s core xs (arg m core xs 1) (arg m core xs 2) (arg m core xs 3)
             (told-done m fit e core is t (λ (d : Deed). d ≡ Start (arg m core xs 1) (arg m core xs 2) (arg m core xs 3)) (asked-start (sight s core) xs a) z) (r .whole .powers-whole) (r .most-cores));
+        start-ready = λ a z.
+            startable m core xs (arg m core xs 1) (arg m core xs 2) (arg m core xs 3)
+            (told-done m fit e core is t (λ (d : Deed). d ≡ Start (arg m core xs 1) (arg m core xs 2) (arg m core xs 3)) (asked-start (sight s core) xs a) z);
         off-done = λ a. rw (powers-are m fit e core is t) (Left.power-off s core xs (goes-off a) (r .whole .powers-whole) i (performs m fit e core is t .on));
         power-stays = λ k a b.
             rw (powers-are m fit e core is t) (Left.power-spared s core xs k
@@ -262,6 +289,7 @@ come m fit core a b y =
       start = Effects.arrived-numbers (stateOf m) core y i 8 (r .whole .saved-whole) (omega arith);
       other-numbers = Effects.arrival-saved (stateOf m) core;
       other-power = Effects.arrival-powers (stateOf m) core;
+      other-turns = Effects.arrival-turns (stateOf m) core;
       owners-stay = refl;
       lists-stay = refl;
     }

@@ -13,7 +13,8 @@ use Rattle.ledger.specs.OneHandler.{One, covers}
 use Rattle.ledger.specs.declared.Lookup.{Lookup}
 use Rattle.registers.specs.Registers.{saved-zeros}
 use Rattle.cores.specs.Power.{powerOf, off, on}
-use Rattle.cores.specs.Cores.{power, first-power-zero, first-power-other}
+use Rattle.cores.specs.declared.Turn.{Turn}
+use Rattle.cores.specs.Cores.{power, first-power-zero, first-power-other, first-turn}
 use Rattle.pages.specs.Owners.{unowned-owner}
 use Rattle.rules.specs.Sizes.{normal}
 use Rattle.judgements.specs.Judge.{calledBy, argsOf, found}
@@ -34,7 +35,7 @@ use Rattle.judgements.specs.Asked.{key}
 use Rattle.guarantees.specs.Named.{Named, by-transfer, by-set-up, as-before, LastTransfer, Unmoved}
 use Rattle.guarantees.specs.Fit.{first-fit, ran-fit}
 use Rattle.guarantees.specs.Entries.{entries, one-entry}
-use Rattle.guarantees.specs.Statements.{Guaranteed, Heeded, ownerIn, number, texts, Shape, status, call}
+use Rattle.guarantees.specs.Statements.{Guaranteed, Heeded, ownerIn, running, number, texts, Shape, status, call}
 use Rattle.parsing.specs.declared.Status.the-variants.{Accepted}
 use Rattle.guarantees.specs.Started.{LastStart, pending-started}
 use Rattle.guarantees.specs.Steps.{heeded}
@@ -80,7 +81,7 @@ module _ (run : Events) (m : Machine) (given : List Reply) (f : Follows first ru
 pub runs-alike : (run : Events) (m : Machine) (a b : Machine) (r q : List Reply) → Follows m run a r → Follows m run b q → (a ≡ b) × (r ≡ q)
 runs-alike run m a b r q f g = let h = follows-is f in let k = follows-is g in (h .0 ∙ sym (k .0), h .1 ∙ sym (k .1))
 
--- Before the first line every page is Root's, every saved number is 0, core 0 is ON and the others are OFF.
+-- Before the first line every page is Root's, every saved number is 0, core 0 is ON and the others are OFF, and each of the eight runs Normal.
 pub root-first : (page : ℕ) → ownerIn first page ≡ 0
 root-first page = unowned-owner page
 
@@ -92,6 +93,9 @@ zero-first = first-power-zero
 
 pub others-first : (core : ℕ) → (core ≡ 0 → ⊥) → power (first .powers) core ≡ powerOf off 0 0
 others-first = first-power-other
+
+pub normal-first : (core : ℕ) → core < 8 → running first core ≡ normal
+normal-first core h = ap (λ (t : Turn). t .world) (first-turn core h)
 
 -- ---- from any accepted set-up on
 -- a call on a core with its eight numbers, or the arrival of a core; whether it is accepted or refused
