@@ -25,6 +25,7 @@ def edges():
     every_page(s)
     sums(s)
     mappings_at_transfer(s)
+    one_operation(s)
     last_core(s)
     return s
 
@@ -153,6 +154,33 @@ def mappings_at_transfer(s):
     s.call("N0", "R", 0xC4000150)
     s.call("R0", -6, 0xC40001B0, own)
     s.call("R0", "N", 0xC400018F)
+
+
+def one_operation(s):
+    s.part(
+        "a granule call moves one page whatever x2 holds, 0 or 5, and the page behind it stays Normal's; from Secure it is -1;"
+        " a count of 0 is -5 before an unaligned start is -2; a page of Realm's behind a mapped one is -3 before -6"
+    )
+    for i in range(11, 15):
+        s.call("N0", 0, 0xC2000021, i * P, P)
+    s.call("N0", "R", 0xC4000150)
+    s.call("R0", 0, 0xC40001B0, B + 12 * P, 0)
+    s.call("R0", 1, 0xC2000012, B + 12 * P)
+    s.call("R0", 0, 0xC2000012, B + 13 * P)
+    s.call("R0", 0, 0xC40001B1, B + 12 * P, 5)
+    s.call("R0", 0, 0xC2000012, B + 12 * P)
+    s.call("R0", 0, 0xC40001B0, B + 11 * P, 5)
+    s.call("R0", 1, 0xC2000012, B + 11 * P)
+    s.call("R0", 0, 0xC2000012, B + 12 * P)
+    s.call("R0", -5, 0xC2000010, B + 1, 0)
+    s.call("R0", "N", 0xC400018F)
+    s.call("N0", "S", 0xF2000001)
+    s.call("S0", -1, 0xC40001B0, B + 12 * P)
+    s.call("S0", -1, 0xC40001B1, B + 12 * P)
+    s.call("S0", -5, 0xC2000010, B + 1, 0)
+    s.call("S0", -3, 0xC2000010, B + 10 * P, 2)
+    s.call("S0", -6, 0xC2000010, B + 10 * P, 1)
+    s.call("S0", "N", 0xF2000000)
 
 
 def last_core(s):

@@ -19,8 +19,6 @@ use mapping::Lead;
 use mapping::Lists;
 use mapping::Mapping;
 use mapping::Verdict;
-use page_calls::give_pages;
-use page_calls::take_pages;
 use pages::Owners;
 use pages::Place;
 use rules::Reason;
@@ -103,8 +101,6 @@ pub fn board_call(
     ensures { λ r. ⌜ r ≡ board (handlerSight v (now (powers .entry)) (now (owners .entry)) (held (now (lists .entry)) (v .world)) (held (now (lists .entry)) normal)) a key ⌝ }
 {
     match key {
-        names::TAKE_PAGES => take_pages(v, owners, lists, a),
-        names::GIVE_PAGES => give_pages(v, owners, lists, a),
         names::OWNS_PAGE => own_page(v, owners, a),
         names::MAP_PAGES => map_pages(v, owners, lists, a),
         names::UNMAP_PAGES => unmap_pages(v, lists, a),

@@ -16,7 +16,7 @@ use Rattle.cores.specs.declared.Turn.{Turn}
 use Rattle.rules.specs.Sizes.{lastWorld, mostCores}
 use Rattle.pages.specs.Owners.{WholeOwners, owner, given-outside}
 use Rattle.ranges.specs.declared.Mapping.{Mapping}
-use Rattle.transfers.specs.Granted.{Movable, move-granted, moved-from, moved-to}
+use Rattle.transfers.specs.Granted.{Movable, transfer-granted, moved-from, moved-to}
 use Rattle.mapping.specs.Lists.{WholeLists}
 use Rattle.rules.specs.Sizes.{secure, normal, realm}
 use Rattle.judgements.specs.Judge.{HandlerSight, calledBy}
@@ -213,7 +213,7 @@ module _ (s : State) (core : ℕ) (xs : List ℕ) where
     moves = rw e at (grounded (sight s core) xs .stands)
 
     movable : Movable (s .site .window) (s .owners) (moves .list) (moves .from) (moves .start) count first
-    movable = move-granted (s .site .window) (s .owners) (moves .list) (moves .from) (moves .start) count first (moves .verdict)
+    movable = transfer-granted (s .site .window) (s .owners) (moves .list) (moves .from) (moves .start) count first (moves .verdict) .0
 
     -- Each page of the run was the giver's and is the taker's.
     pub moved-inside : (page : ℕ) → WholeOwners (s .owners) → first ≤ page → page < first + count

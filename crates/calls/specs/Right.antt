@@ -19,7 +19,7 @@ use Rattle.pages.specs.Owners.{WholeOwners, owner, given, given-whole, given-wo
 use Rattle.mapping.specs.Lists.{WholeLists, holding-whole, released-whole, unmapped, unmapped-whole, held, held-unmapped, holding, holding-other, holding-inserts, released-other, released-takes}
 use Rattle.mapping.specs.Sound.{Sound, sound-none, granted-room, granted-formed, granted-keeps, without-keeps}
 use Rattle.ranges.specs.declared.Mapping.{Mapping}
-use Rattle.transfers.specs.Granted.{Movable, move-granted, moved-keeps}
+use Rattle.transfers.specs.Granted.{Movable, transfer-granted, moved-keeps}
 use Rattle.rules.specs.Sizes.{secure, normal, realm}
 use Rattle.judgements.specs.Grounds.{Takes, Calls, Between, Grounds, grounded}
 use Rattle.judgements.specs.Grounds.Between.{toCaller, toNormal}
@@ -151,7 +151,7 @@ module _ (s : State) (r : Right s) (core : ℕ) (ready : isOn (power (s .powers)
   deed-right (Move first count to) g xs =
       right-owners s r _ (given-whole _ first count to (r .whole .owners-whole))
       (given-worlds (s .owners) first count to (r .whole .owners-whole) (r .worlds))
-      (move-sound (g .start) count first (g .from) to (g .list) (g .between) (move-granted _ _ _ _ _ _ _ (g .verdict)))
+      (move-sound (g .start) count first (g .from) to (g .list) (g .between) (transfer-granted _ _ _ _ _ _ _ (g .verdict) .0))
   deed-right (Map m) g xs =
       right-lists s r _ (holding-whole _ (callerOf s core) m (r .whole .lists-whole))
       (λ world. same-or-other world (callerOf s core)

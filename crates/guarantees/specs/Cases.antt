@@ -26,9 +26,9 @@ use Rattle.pages.specs.declared.Place.the-variants.{Outside}
 use Rattle.mapping.specs.Mapping.{unaligned, malformed, mapVerdict, hasExactly, anyOf, exact}
 use Rattle.mapping.specs.Lists.{held, held-some}
 use Rattle.ranges.specs.declared.Mapping.{Mapping}
-use Rattle.transfers.specs.Transfer.{moveTests, moveVerdict}
+use Rattle.transfers.specs.Transfer.{moveTests, transferVerdict}
 use Rattle.rules.specs.Sizes.{secure, normal, realm}
-use Rattle.judgements.specs.Judge.{HandlerSight, denied, granted, oneOf, callers, calledBy, argsOf, byHandler, found, judgedBy, judged, board, wanted, mapping, unmapping, standard, starting, tellingState, goodStart, ownedAt, realmCall, granuleIn, granuleOut, moving}
+use Rattle.judgements.specs.Judge.{HandlerSight, denied, granted, oneOf, callers, calledBy, argsOf, rowIn, transferring, byNumber, byRow, byHandler, found, judgedBy, judged, board, wanted, mapping, unmapping, standard, starting, tellingState, goodStart, ownedAt, realmCall, moving}
 use Rattle.judgements.specs.declared.Answer.{Answer}
 use Rattle.judgements.specs.declared.Answer.the-variants as Answer
 use Rattle.judgements.specs.declared.Deed.the-variants as Deed
@@ -208,7 +208,7 @@ p4 c e = answered c (Answer.No Reason.Unserved) refl (rw e (either (oneOf (world
 
 -- a page that is none of the window
 no-page : (c : Call) → Among (identifier c) onePage → Reaches c 2 → world c ≡ realm → runOf (window c) (x c 1) 1 ≡ Outside → Answered c (numberOf c (minus 2))
-unfolding keyOf argsOf byHandler standard realmCall granuleIn granuleOut moving moveVerdict moveTests pick sieve admitted parts
+unfolding keyOf argsOf rowIn byRow byNumber transferring oneOf moving transferVerdict moveTests pick sieve admitted parts
 no-page c (inl e) to r o = settled c e to (from-realm r) (Answer.No Reason.Invalid) refl refl (rw (r, o))
 no-page c (inr (inl e)) to r o = settled c e to (from-realm r) (Answer.No Reason.Invalid) refl refl (rw (r, o))
 
@@ -219,7 +219,7 @@ p7 : Holds (case 7)
 p7 c i to (inl r) f = no-page c i to r (run-past (window c) (f .0) (x c 1) 1 (omega (arith, f .1)))
 
 p8 : Holds (case 8)
-unfolding keyOf argsOf byHandler board mapping mapVerdict pick admitted parts
+unfolding keyOf argsOf rowIn byRow byNumber board mapping mapVerdict pick admitted parts
 p8 c (inl e) to may f = settled c e to may Answer.Done refl refl (rw f)
 
 no-attributes : (m : Mapping) → 2 < m .attr → malformed m ≡ true
@@ -227,7 +227,7 @@ unfolding malformed
 no-attributes m h = second-or (unaligned (m .virt)) _ (second-or (unaligned (m .phys)) _ (second-or (unaligned (m .size)) _ (lt-ltb 2 (m .attr) h)))
 
 p9 : Holds (case 9)
-unfolding keyOf argsOf byHandler board mapping mapVerdict sieve pick admitted parts
+unfolding keyOf argsOf rowIn byRow byNumber board mapping mapVerdict sieve pick admitted parts
 p9 c (inl e) to may f =
     settled c e to may (Answer.No Reason.Malformed) refl refl (rw (no-attributes (wanted (args c)) (omega (arith, f .1)), f .0))
 
@@ -240,7 +240,7 @@ not-half c h =
     (λ n. rw (h .list, n) (neither _ false (right-false (eqb (h .only .virt) (x c 1)) false refl) refl))
 
 p10 : Holds (case 10)
-unfolding keyOf argsOf byHandler board unmapping sieve pick admitted parts
+unfolding keyOf argsOf rowIn byRow byNumber board unmapping sieve pick admitted parts
 p10 c (inl e) to may h = settled c e to may (Answer.No Reason.NoMapping) refl refl (rw (not-half c h))
 
 module _ (c : Call) (r : world c ≡ normal) where
@@ -262,12 +262,12 @@ module _ (c : Call) (r : world c ≡ normal) where
       )
 
 p11 : Holds (case 11)
-unfolding keyOf byHandler standard pick admitted parts
+unfolding keyOf rowIn byRow byNumber standard pick admitted parts
 p11 c (inl e) to (inl r) f = settled c e to (from-normal r) (Answer.No Reason.Invalid) refl refl (no-level c r (λ (z : x c 2 ≡ 0). omega (arith, f)))
 p11 c (inr (inl e)) to (inl r) f = settled c e to (from-normal r) (Answer.No Reason.Invalid) refl refl (no-level c r (λ (z : x c 2 ≡ 0). omega (arith, f)))
 
 p12 : Holds (case 12)
-unfolding keyOf byHandler standard pick admitted parts
+unfolding keyOf rowIn byRow byNumber standard pick admitted parts
 p12 c (inl e) to (inl r) o = settled c e to (from-normal r) (Answer.No Reason.AlreadyOn) refl refl (oneself c r o)
 p12 c (inr (inl e)) to (inl r) o = settled c e to (from-normal r) (Answer.No Reason.AlreadyOn) refl refl (oneself c r o)
 

@@ -16,7 +16,7 @@ use Rattle.pages.specs.declared.Place.{Place}
 use Rattle.pages.specs.declared.Place.the-variants.{Page, Outside}
 use Rattle.mapping.specs.Sound.{unmet-run}
 use Rattle.ranges.specs.declared.Mapping.{Mapping}
-use Rattle.transfers.specs.Granted.{move-granted, moved-from}
+use Rattle.transfers.specs.Granted.{transfer-granted, moved-from}
 use Rattle.judgements.specs.Judge.{ownedAt, goodStart}
 use Rattle.judgements.specs.Grounds.{Takes, Between, grounded}
 use Rattle.judgements.specs.Grounds.Between.{toCaller, toNormal}
@@ -70,7 +70,7 @@ module _ (m : Machine) (core : ℕ) (xs : List ℕ) where
   had ok start count first to l d =
       let g = moves s core xs first count to d in
       let b = gives (g .from) to (g .list) (g .between) (g .caller) in
-      let v = move-granted (window m) (m .owners) (g .list) (g .from) (g .start) count first (g .verdict) in (
+      let v = transfer-granted (window m) (m .owners) (g .list) (g .from) (g .start) count first (g .verdict) .0 in (
         g .caller,
         rw (b .0) (record {
           some = g .some;

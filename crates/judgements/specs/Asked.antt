@@ -7,7 +7,7 @@ use Prim.Native.Nat.{ℕ, _≤_}
 use native.Mathlib.Omega.{arith}
 use lib.ListN.{getD}
 use borrow.Author.Tests.{eqb-true, eqb-false, ltb-false, not-false}
-use Rattle.rules.specs.Choice.{pick, chosen, either}
+use Rattle.rules.specs.Choice.{pick, pick-yes, pick-no, chosen, either}
 use Rattle.rules.specs.Choice as Choice
 use Rattle.rules.specs.Tests.{Test, sieve, sieved, goes, ends, Clear}
 use Rattle.rules.specs.declared.Reason.{Reason}
@@ -26,28 +26,28 @@ use Rattle.mapping.specs.declared.Verdict.{Verdict}
 use Rattle.mapping.specs.declared.Verdict.the-variants as Verdict
 use Rattle.mapping.specs.declared.Lead.{Lead}
 use Rattle.mapping.specs.declared.Lead.the-variants as Lead
-use Rattle.transfers.specs.Transfer.{moveVerdict, severalVerdict}
-use Rattle.transfers.specs.Granted.{move-granted, several-granted}
+use Rattle.transfers.specs.Transfer.{transferVerdict}
+use Rattle.transfers.specs.Granted.{transfer-granted}
 use Rattle.transfers.specs.declared.Verdict.{Verdict as Moving}
 use Rattle.transfers.specs.declared.Verdict.the-variants as Moving
 use Rattle.rules.specs.Sizes.{secure, normal, realm}
-use Rattle.judgements.specs.Names.{coreOff, coreStart, coreStartWide, granuleToRealm, granuleToNormal, realmFirst, realmLast, realmFinish, takePages, givePages, mapPages, unmapPages, whereLeads, countOn, secureFinish}
-use Rattle.judgements.specs.Judge.{HandlerSight, Sight, denied, granted, tested, oneOf, callers, wanted, calledBy, argsOf, affirmed, featuring, architecture, starting, stateOf, tellingState, goingOff, versioning, powerFeaturing, moving, granuleIn, granuleOut, taking, giving, owning, mapping, unmapping, leading, board, handing, finishing, handingToRealm, realmCall, standard, trusted, byHandler, found, judgedBy, judged}
+use Rattle.judgements.specs.Names.{coreOff, coreStart, coreStartWide, realmFirst, realmLast, realmFinish, mapPages, unmapPages, whereLeads, countOn, secureFinish}
+use Rattle.judgements.specs.Judge.{HandlerSight, Sight, denied, granted, tested, oneOf, callers, wanted, calledBy, argsOf, affirmed, featuring, architecture, starting, stateOf, tellingState, goingOff, versioning, powerFeaturing, rowOf, moving, transferring, owning, mapping, unmapping, leading, board, handing, finishing, handingToRealm, realmCall, standard, trusted, byNumber, byRow, byHandler, found, judgedBy, judged}
 use Rattle.judgements.specs.declared.Answer.{Answer}
 use Rattle.judgements.specs.declared.Answer.the-variants as Answer
 use Rattle.judgements.specs.declared.Deed.{Deed}
 use Rattle.judgements.specs.declared.Deed.the-variants.{Nothing, Move, Map, Unmap, Start, GoOff, HandOver, Finish}
 use Rattle.judgements.specs.declared.Judged.{Judged}
 use Rattle.judgements.specs.declared.Args.{Args}
+use Rattle.judgements.specs.declared.Transfer.{Transfer}
+use Rattle.judgements.specs.declared.Row.{Row}
+use Rattle.judgements.specs.declared.Row.the-variants.{Is, NoTransfer}
 use Rattle.judgements.specs.declared.Caller.{Caller}
 
 -- ---- what a call asks for, by the handler that it reaches and its identifier
 -- a transfer: the start, the number of pages, and the world that takes them
-pub data Asks (v : Caller) (a : Args) : ℕ → ℕ → ℕ → ℕ → ℕ → Type 0 where
-  page-in : Asks v a 2 granuleToRealm (a .x1) 1 realm
-  page-out : Asks v a 2 granuleToNormal (a .x1) 1 normal
-  pages-in : Asks v a 1 takePages (a .x1) (a .x2) (v .world)
-  pages-out : Asks v a 1 givePages (a .x1) (a .x2) normal
+pub data Asks (v : Caller) (a : Args) (h key : ℕ) : ℕ → ℕ → ℕ → Type 0 where
+  by-row : (t : Transfer) → rowOf a h key ≡ Is t → Asks v a h key (a .x1) (t .count) (pick (t .takes) (v .world) normal)
 
 -- such a transfer of the run from this page on
 pub record AsksAt (v : Caller) (a : Args) (h key first count to : ℕ) : Type 0 where
@@ -95,11 +95,8 @@ abbrev pub Lies : Window → Moving → ℕ → ℕ → Type 0
 Lies w v start count = (first : ℕ) → v ≡ Moving.Granted first → runOf w start count ≡ Page first
 
 module _ (w : Window) (o : List ℕ) (list : List Mapping) (from start count : ℕ) where
-  pub lies : Lies w (moveVerdict w o list from start count) start count
-  lies first g = move-granted w o list from start count first g .lies
-
-  pub several-lies : Lies w (severalVerdict w o list from start count) start count
-  several-lies first g = lies first (several-granted w o list from start count first g .0)
+  pub lies : Lies w (transferVerdict w o list from start count) start count
+  lies first g = transfer-granted w o list from start count first g .0 .lies
 
 -- ---- each call
 module _ (s : HandlerSight) (a : Args) (h key : ℕ) where
@@ -154,16 +151,14 @@ module _ (s : HandlerSight) (a : Args) (h key : ℕ) where
     leads Lead.Nowhere k = tt
 
     boards : For (board s a key)
-    unfolding board taking giving unmapping
+    unfolding board unmapping
     boards =
-        chosen For _ _ _ (λ e. testing _ _ (λ c. transfers _ (a .x1) (a .x2) (s .caller .world) (several-lies _ _ _ _ _ _) (rw (is, eqb-true key takePages e) pages-in)))
-        (λ e. chosen For _ _ _ (λ e. testing _ _ (λ c. transfers _ (a .x1) (a .x2) normal (several-lies _ _ _ _ _ _) (rw (is, eqb-true key givePages e) pages-out)))
-        (λ e. chosen For _ _ _ (λ e. questions _ _ _)
+        chosen For _ _ _ (λ e. questions _ _ _)
         (λ e. chosen For _ _ _ (λ e. mappings _ (eqb-true key mapPages e))
         (λ e. chosen For _ _ _ (λ e. testing _ _ (λ c. ((is, eqb-true key unmapPages e), ((refl, refl), refl))))
         (λ e. chosen For _ _ _ (λ e. leads _ (eqb-true key whereLeads e))
         (λ e. chosen For _ _ _ (λ e. (is, eqb-true key countOn e))
-        (λ e. tt)))))))
+        (λ e. tt)))))
 
   module _ (is : h ≡ 2) where
     starts : (key ≡ coreStart) ⊎ (key ≡ coreStartWide) → For (starting (s .caller) (s .powers) (s .owners) a)
@@ -174,15 +169,11 @@ module _ (s : HandlerSight) (a : Args) (h key : ℕ) where
     unfolding handingToRealm Clear
     range = testing _ _ (λ c. hands realm (rw is (to-realm key (ltb-false key realmFirst (c .0)) (ltb-false realmLast key (c .1 .0)))))
 
-    realm-calls : For (realmCall (s .caller) (s .owners) (s .own) (s .theirs) a key)
-    unfolding realmCall granuleIn granuleOut
-    realm-calls =
-        chosen For _ _ _ (λ e. testing _ _ (λ c. transfers _ (a .x1) 1 realm (lies _ _ _ _ _ _) (rw (is, eqb-true key granuleToRealm e) page-in)))
-        (λ e. chosen For _ _ _ (λ e. testing _ _ (λ c. transfers _ (a .x1) 1 normal (lies _ _ _ _ _ _) (rw (is, eqb-true key granuleToNormal e) page-out)))
-        (λ e. chosen For _ _ _ (λ e. finishes realm (rw (is, eqb-true key realmFinish e) by-realm))
-        (λ e. range)))
+    realm-calls : For (realmCall (s .caller) key)
+    unfolding realmCall
+    realm-calls = chosen For _ _ _ (λ e. finishes realm (rw (is, eqb-true key realmFinish e) by-realm)) (λ e. range)
 
-    standards : For (standard s a key)
+    standards : For (standard (s .caller) (s .powers) (s .owners) a key)
     unfolding standard versioning goingOff tellingState powerFeaturing
     standards =
         chosen For _ _ _ (λ e. testing _ _ (λ c. tt))
@@ -200,14 +191,28 @@ module _ (s : HandlerSight) (a : Args) (h key : ℕ) where
       chosen For _ _ _ (λ e. finishes secure (rw (is, eqb-true key secureFinish e) by-secure))
       (λ e. hands secure (rw is (to-secure key (eqb-false key secureFinish e))))
 
-  handlers : For (byHandler s a key h)
-  unfolding byHandler
-  handlers =
+  numbers : For (byNumber s a key h)
+  unfolding byNumber
+  numbers =
       chosen For _ _ _ (λ e. architectures)
       (λ e. chosen For _ _ _ (λ e. boards (eqb-true h 1 e))
       (λ e. chosen For _ _ _ (λ e. standards (eqb-true h 2 e))
       (λ e. chosen For _ _ _ (λ e. trust (eqb-true h 3 e))
       (λ e. tt))))
+
+  rows : (r : Row) → rowOf a h key ≡ r → For (byRow s a key h r)
+  unfolding byRow transferring
+  rows (Is t) e =
+      testing _ _ (λ c. chosen For (t .takes) _ _
+      (λ y. transfers _ (a .x1) (t .count) (s .caller .world) (lies _ _ _ _ _ _) (subst To (pick-yes _ _ _ y) (by-row t e)))
+      (λ n. transfers _ (a .x1) (t .count) normal (lies _ _ _ _ _ _) (subst To (pick-no _ _ _ n) (by-row t e))))
+    where
+      To : ℕ → Type 0
+      To to = Asks (s .caller) a h key (a .x1) (t .count) to
+  rows NoTransfer e = numbers
+
+  handlers : For (byHandler s a key h)
+  handlers = rows (rowOf a h key) refl
 
 -- ---- the whole judgement
 -- the identifier of a call

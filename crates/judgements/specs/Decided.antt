@@ -1,6 +1,6 @@
 -- And what is asked for is done, or refused: a judgement of such a call by its two outcomes.
 use mathlib.Core.Path.{_≡_, refl, sym, ap, _∙_}
-use mathlib.Core.Bool.{true}
+use mathlib.Core.Bool.{Bool, true, false}
 use mathlib.Core.List.{List}
 use mathlib.Core.Logic.{_⊎_, inl, inr}
 use Prim.Native.Nat.{ℕ}
@@ -25,14 +25,14 @@ use Rattle.transfers.specs.declared.Verdict.{Verdict as Moving}
 use Rattle.transfers.specs.declared.Verdict.the-variants as Moving
 use Rattle.rules.specs.Sizes.{normal}
 use Rattle.judgements.specs.Names.{powerVersion, coreOff, coreStart, coreStartWide, coreState, coreStateWide, powerFeatures, granuleToRealm, granuleToNormal, realmFirst, realmLast, realmFinish, mapPages, unmapPages, whereLeads, countOn, secureFinish}
-use Rattle.judgements.specs.Judge.{HandlerSight, Sight, denied, tested, oneOf, callers, wanted, calledBy, argsOf, starting, goingOff, moving, granuleIn, granuleOut, taking, giving, mapping, unmapping, leading, board, handing, finishing, handingToRealm, realmCall, standard, trusted, byHandler, found, judged}
+use Rattle.judgements.specs.Judge.{HandlerSight, Sight, denied, tested, oneOf, callers, wanted, calledBy, argsOf, starting, goingOff, moving, rowIn, transferring, byNumber, byRow, mapping, unmapping, leading, board, handing, finishing, handingToRealm, realmCall, standard, trusted, byHandler, found, judged}
 use Rattle.judgements.specs.declared.Answer.{Answer}
 use Rattle.judgements.specs.declared.Answer.the-variants as Answer
 use Rattle.judgements.specs.declared.Deed.{Deed}
 use Rattle.judgements.specs.declared.Deed.the-variants.{Move, Map, Unmap, Start, GoOff, HandOver, Finish}
 use Rattle.judgements.specs.declared.Judged.{Judged}
 use Rattle.judgements.specs.declared.Args.{Args}
-use Rattle.judgements.specs.Asked.{Asks, page-in, page-out, pages-in, pages-out, HandsTo, to-secure, to-realm, Finishes, by-secure, by-realm, Lies, lies, several-lies, key, Reached, so-reached, judged-by, judged-found}
+use Rattle.judgements.specs.Asked.{Asks, by-row, HandsTo, to-secure, to-realm, Finishes, by-secure, by-realm, Lies, lies, key, Reached, so-reached, judged-by, judged-found}
 
 -- the judgement has this answer, and a deed of which this is so; or it is a refusal
 pub data Decided (a : Answer) (P : Deed → Type 0) (j : Judged) : Type 0 where
@@ -67,13 +67,17 @@ module _ (w : Window) (start count to : ℕ) where
   moving-decided (Moving.Granted first) l = done refl (record { first = first; lies = l first refl; moves = refl })
   moving-decided (Moving.No r) l = refused r refl
 
+-- to the one or to the other
+either-way : (w : Window) (start count one other : ℕ) (b : Bool) (u v : Moving) → Lies w u start count → Lies w v start count
+    → Decided Answer.Done (MovesRun w start count (pick b one other)) (pick b (moving u count one) (moving v count other))
+unfolding pick
+either-way w start count one other true u v l m = moving-decided w start count one u l
+either-way w start count one other false u v l m = moving-decided w start count other v m
+
 module _ (s : HandlerSight) (a : Args) where
   asks-decided : {h k start count to : ℕ} → Asks (s .caller) a h k start count to → Decided Answer.Done (MovesRun (s .caller .window) start count to) (byHandler s a k h)
-  unfolding byHandler standard realmCall granuleIn granuleOut board taking giving pick
-  asks-decided page-in = tested-decided _ _ _ _ (moving-decided _ _ _ _ _ (lies _ _ _ _ _ _))
-  asks-decided page-out = tested-decided _ _ _ _ (moving-decided _ _ _ _ _ (lies _ _ _ _ _ _))
-  asks-decided pages-in = tested-decided _ _ _ _ (moving-decided _ _ _ _ _ (several-lies _ _ _ _ _ _))
-  asks-decided pages-out = tested-decided _ _ _ _ (moving-decided _ _ _ _ _ (several-lies _ _ _ _ _ _))
+  unfolding byRow transferring
+  asks-decided (by-row t e) = rw e (tested-decided _ _ _ _ (either-way _ _ _ _ _ (t .takes) _ _ (lies _ _ _ _ _ _) (lies _ _ _ _ _ _)))
 
   -- ---- a mapping of some size, and its end
   mapping-decided : (v : Verdict) (m : Mapping) → (v ≡ Verdict.Nothing → ⊥) → Decided Answer.Done (λ (d : Deed). d ≡ Map m) (mapping v m)
@@ -91,11 +95,11 @@ module _ (s : HandlerSight) (a : Args) where
       (sym (pick-no _ _ _ (ne-eqb (m .size) 0 n)) ∙ e)
 
   map-decided : (h k : ℕ) → (h ≡ 1) × (k ≡ mapPages) → (a .x3 ≡ 0 → ⊥) → Decided Answer.Done (λ (d : Deed). d ≡ Map (wanted a)) (byHandler s a k h)
-  unfolding byHandler board pick
+  unfolding rowIn byRow byNumber board pick
   map-decided h k is n = rw (is .0, is .1) (mapping-decided _ (wanted a) (some-verdict _ _ _ _ (wanted a) n))
 
   unmap-decided : (h k : ℕ) → (h ≡ 1) × (k ≡ unmapPages) → Decided Answer.Done (λ (d : Deed). d ≡ Unmap (a .x1) (a .x2)) (byHandler s a k h)
-  unfolding byHandler board unmapping pick
+  unfolding rowIn byRow byNumber board unmapping pick
   unmap-decided h k is = rw (is .0, is .1) (tested-decided _ _ _ _ (done refl refl))
 
   leading-tells : (l : Lead) → TellsLead l (leading l)
@@ -104,29 +108,31 @@ module _ (s : HandlerSight) (a : Args) where
   leading-tells Lead.Nowhere = leads-not Reason.Nowhere refl
 
   where-tells : (h k : ℕ) → (h ≡ 1) × (k ≡ whereLeads) → TellsLead (leadOf (s .own) (a .x1)) (byHandler s a k h)
-  unfolding byHandler board pick
+  unfolding rowIn byRow byNumber board pick
   where-tells h k is = rw (is .0, is .1) (leading-tells (leadOf (s .own) (a .x1)))
 
   count-told : (h k : ℕ) → (h ≡ 1) × (k ≡ countOn) → byHandler s a k h .answer ≡ Answer.Count (onCount (s .powers))
-  unfolding byHandler board pick
+  unfolding rowIn byRow byNumber board pick
   count-told h k is = rw (is .0, is .1)
 
   -- ---- core power
   start-decided : (h k : ℕ) → (h ≡ 2) × ((k ≡ coreStart) ⊎ (k ≡ coreStartWide)) → Decided Answer.Done (λ (d : Deed). d ≡ Start (a .x1) (a .x2) (a .x3)) (byHandler s a k h)
-  unfolding byHandler standard starting pick
+  unfolding rowIn byRow byNumber standard starting pick
   start-decided h k (is, inl e) = rw (is, e) (tested-decided _ _ _ _ (done refl refl))
   start-decided h k (is, inr e) = rw (is, e) (tested-decided _ _ _ _ (done refl refl))
 
   off-done : (h k : ℕ) → (h ≡ 2) × (k ≡ coreOff) → s .caller .world ≡ normal → byHandler s a k h .deed ≡ GoOff
-  unfolding byHandler standard goingOff sieve pick
+  unfolding rowIn byRow byNumber standard goingOff sieve pick
   off-done h k is e = rw (is .0, is .1, e)
 
   -- ---- a hand-over and a finish
   hands-done : (h k to : ℕ) → s .caller .world ≡ normal → HandsTo h k to → byHandler s a k h .deed ≡ HandOver to
-  unfolding byHandler standard realmCall handingToRealm trusted handing sieve pick
+  unfolding rowIn byRow byNumber standard realmCall handingToRealm trusted handing sieve pick
   hands-done h k to e (to-secure key n) = rw (ne-eqb key secureFinish n, e)
   hands-done h k to e (to-realm key low high) =
       rw (
+        ne-eqb key granuleToRealm (λ z. omega arith),
+        ne-eqb key granuleToNormal (λ z. omega arith),
         ne-eqb key powerVersion (λ z. omega arith),
         ne-eqb key coreOff (λ z. omega arith),
         ne-eqb key coreStart (λ z. omega arith),
@@ -134,8 +140,6 @@ module _ (s : HandlerSight) (a : Args) where
         ne-eqb key coreState (λ z. omega arith),
         ne-eqb key coreStateWide (λ z. omega arith),
         ne-eqb key powerFeatures (λ z. omega arith),
-        ne-eqb key granuleToRealm (λ z. omega arith),
-        ne-eqb key granuleToNormal (λ z. omega arith),
         ne-eqb key realmFinish (λ z. omega arith),
         le-ltb key realmFirst low,
         le-ltb realmLast key high,
@@ -143,7 +147,7 @@ module _ (s : HandlerSight) (a : Args) where
       )
 
   finishes-done : (h k w : ℕ) → s .caller .world ≡ w → s .caller .is_open ≡ true → Finishes h k w → byHandler s a k h .deed ≡ Finish
-  unfolding byHandler standard realmCall trusted finishing sieve pick
+  unfolding rowIn byRow byNumber standard realmCall trusted finishing sieve pick
   finishes-done h k w e o by-secure = rw (e, o)
   finishes-done h k w e o by-realm = rw (e, o)
 

@@ -1,13 +1,13 @@
 -- What a granted deed stands on, whatever the call: one law over every judgement, by which the theorems over runs go.
 use mathlib.Core.Path.{_≡_, refl, sym, subst}
 use mathlib.Core.Bool.{Bool, true, false, not, _||_}
-use mathlib.Core.List.{List}
+use mathlib.Core.List.{List, [], _∷_}
 use mathlib.Core.Logic.{_⊎_, inl, inr}
 use Prim.Native.Nat.{ℕ, _<_}
 use native.Mathlib.Omega.{arith}
 use lib.Dec.{eqb}
 use borrow.Author.Tests.{eqb-true, leb-false, not-false}
-use Rattle.rules.specs.Choice.{chosen, either, yes-or-no}
+use Rattle.rules.specs.Choice.{pick, chosen, either, yes-or-no}
 use Rattle.rules.specs.Tests.{Test, sieved, Clear}
 use Rattle.rules.specs.declared.Reason.{Reason}
 use Rattle.rules.specs.declared.Reason.the-variants as Reason
@@ -23,8 +23,8 @@ use Rattle.mapping.specs.declared.Verdict.{Verdict}
 use Rattle.mapping.specs.declared.Verdict.the-variants as Verdict
 use Rattle.mapping.specs.declared.Lead.{Lead}
 use Rattle.mapping.specs.declared.Lead.the-variants as Lead
-use Rattle.transfers.specs.Transfer.{moveVerdict, severalVerdict}
-use Rattle.transfers.specs.Granted.{several-granted}
+use Rattle.transfers.specs.Transfer.{transferVerdict}
+use Rattle.transfers.specs.Granted.{transfer-granted}
 use Rattle.transfers.specs.declared.Verdict.{Verdict as Moving}
 use Rattle.transfers.specs.declared.Verdict.the-variants as Moving
 use Rattle.rules.specs.Sizes.{secure, normal, realm}
@@ -34,7 +34,10 @@ use Rattle.judgements.specs.declared.Deed.{Deed}
 use Rattle.judgements.specs.declared.Deed.the-variants.{Nothing, Move, Map, Unmap, Start, GoOff, HandOver, Finish}
 use Rattle.judgements.specs.declared.Judged.{Judged}
 use Rattle.judgements.specs.declared.Args.{Args}
-use Rattle.judgements.specs.Judge.{HandlerSight, Sight, denied, granted, tested, oneOf, takers, callers, goodStart, wanted, affirmed, featuring, architecture, starting, tellingState, goingOff, versioning, powerFeaturing, moving, granuleIn, granuleOut, taking, giving, owning, mapping, unmapping, leading, board, handing, finishing, handingToRealm, realmCall, standard, trusted, byHandler, found, judgedBy, judged}
+use Rattle.judgements.specs.declared.Transfer.{Transfer}
+use Rattle.judgements.specs.declared.Row.{Row}
+use Rattle.judgements.specs.declared.Row.the-variants.{Is, NoTransfer}
+use Rattle.judgements.specs.Judge.{HandlerSight, Sight, denied, granted, tested, oneOf, takers, callers, goodStart, wanted, affirmed, featuring, architecture, starting, tellingState, goingOff, versioning, powerFeaturing, mayTransfer, rowOf, moving, transferring, owning, mapping, unmapping, leading, board, handing, finishing, handingToRealm, realmCall, standard, trusted, byNumber, byRow, found, judgedBy, judged}
 
 -- Secure or Realm
 abbrev pub Takes : ℕ → Type 0
@@ -57,7 +60,7 @@ pub record Moves (s : HandlerSight) (first count to : ℕ) : Type 0 where
   pub between : Between s from to list
   pub some : 0 < count
   pub caller : Takes (s .caller .world)
-  pub verdict : moveVerdict (s .caller .window) (s .owners) list from start count ≡ Moving.Granted first
+  pub verdict : transferVerdict (s .caller .window) (s .owners) list from start count ≡ Moving.Granted first
 
 -- a mapping that is granted
 pub record Maps (s : HandlerSight) (m : Mapping) : Type 0 where
@@ -115,12 +118,15 @@ module _ (s : HandlerSight) where
 is-world : (a b : ℕ) → not (eqb a b) ≡ false → a ≡ b
 is-world a b e = eqb-true a b (not-false (eqb a b) e)
 
-is-taker : (w : ℕ) → not (oneOf w takers) ≡ false → Takes w
-unfolding oneOf
-is-taker w e =
+-- Secure or Realm, or Realm alone
+is-taker : (w : ℕ) (forSecure : Bool) → not (oneOf w (pick forSecure takers (realm ∷ []))) ≡ false → Takes w
+unfolding oneOf pick
+is-taker w true e =
     either (eqb w secure) (λ y. inl (eqb-true w secure y))
     (λ n. either (eqb w realm) (λ y. inr (eqb-true w realm y))
     (λ m. let z : not (eqb w secure || (eqb w realm || false)) ≡ true = rw (n, m) in absurd (yes-or-no _ z e)))
+is-taker w false e =
+    either (eqb w realm) (λ y. inr (eqb-true w realm y)) (λ m. let z : not (eqb w realm || false) ≡ true = rw m in absurd (yes-or-no _ z e))
 
 is-caller : (w : ℕ) → not (oneOf w callers) ≡ false → Calls w
 unfolding oneOf
@@ -174,33 +180,17 @@ module _ (s : HandlerSight) (a : Args) where
   transfers (Moving.Granted first) count to g = doing s (Move first count to) (g first refl)
   transfers (Moving.No r) count to g = refusing s r
 
-  granules-in : Grounded s (granuleIn (s .caller) (s .owners) (s .theirs) a)
-  unfolding granuleIn Clear
-  granules-in =
-      testing s _ _ (λ c. let e : s .caller .world ≡ realm = is-world (s .caller .world) realm (c .0) in
-      transfers _ _ _ (λ first v. subst (λ (to : ℕ). Moves s first 1 to) e (record { start = a .x1; from = normal; list = s .theirs; between = toCaller; some = omega arith; caller = inr e; verdict = v })))
-
-  granules-out : Grounded s (granuleOut (s .caller) (s .owners) (s .own) a)
-  unfolding granuleOut Clear
-  granules-out =
-      testing s _ _ (λ c. transfers _ _ _ (λ first v.
-      record { start = a .x1; from = s .caller .world; list = s .own; between = toNormal; some = omega arith; caller = inr (is-world (s .caller .world) realm (c .0)); verdict = v }))
-
-  -- a grant of several pages is one of pages, and of at least one
-  several : {from to : ℕ} {list : List Mapping} → Between s from to list → Takes (s .caller .world) → (first : ℕ)
-      → severalVerdict (s .caller .window) (s .owners) list from (a .x1) (a .x2) ≡ Moving.Granted first → Moves s first (a .x2) to
-  several {from} {to} {list} b t first v =
-      let g = several-granted (s .caller .window) (s .owners) list from (a .x1) (a .x2) first v in
-      let n : a .x2 ≡ 0 → ⊥ = g .1 in
-      record { start = a .x1; from = from; list = list; between = b; some = omega arith; caller = t; verdict = g .0 }
-
-  takings : Grounded s (taking (s .caller) (s .owners) (s .theirs) a)
-  unfolding taking Clear
-  takings = testing s _ _ (λ c. transfers _ _ _ (several toCaller (is-taker (s .caller .world) (c .0))))
-
-  givings : Grounded s (giving (s .caller) (s .owners) (s .own) a)
-  unfolding giving Clear
-  givings = testing s _ _ (λ c. transfers _ _ _ (several toNormal (is-taker (s .caller .world) (c .0))))
+  -- a transfer, whichever way
+  any-transfer : (t : Transfer) → Grounded s (transferring t (s .caller) (s .owners) (s .own) (s .theirs) a)
+  unfolding transferring Clear
+  any-transfer t = testing s _ _ (λ c. chosen (Grounded s) (t .takes) _ _ (λ e. way toCaller (c .0)) (λ e. way toNormal (c .0)))
+    where
+      way : {from to : ℕ} {list : List Mapping} → Between s from to list → not (oneOf (s .caller .world) (mayTransfer t)) ≡ false
+          → Grounded s (moving (transferVerdict (s .caller .window) (s .owners) list from (a .x1) (t .count)) (t .count) to)
+      way {from} {to} {list} b may =
+          transfers _ _ _ (λ first v.
+          let some : t .count ≡ 0 → ⊥ = transfer-granted _ _ _ _ _ _ first v .1 in
+          record { start = a .x1; from = from; list = list; between = b; some = omega arith; caller = is-taker (s .caller .world) (t .both) may; verdict = v })
 
   questions : (o : List ℕ) (p : Place) (world : ℕ) → Grounded s (owning o p world)
   unfolding owning
@@ -235,15 +225,12 @@ module _ (s : HandlerSight) (a : Args) where
   unfolding trusted
   trust key = chosen (Grounded s) _ _ _ (λ e. finishes secure (inl refl)) (λ e. hands secure (inl refl))
 
-  realm-calls : (key : ℕ) → Grounded s (realmCall (s .caller) (s .owners) (s .own) (s .theirs) a key)
+  realm-calls : (key : ℕ) → Grounded s (realmCall (s .caller) key)
   unfolding realmCall
   realm-calls key =
-      chosen (Grounded s) _ _ _ (λ e. granules-in)
-      (λ e. chosen (Grounded s) _ _ _ (λ e. granules-out)
-      (λ e. chosen (Grounded s) _ _ _ (λ e. finishes realm (inr refl))
-      (λ e. range key)))
+      chosen (Grounded s) _ _ _ (λ e. finishes realm (inr refl)) (λ e. range key)
 
-  standards : (key : ℕ) → Grounded s (standard s a key)
+  standards : (key : ℕ) → Grounded s (standard (s .caller) (s .powers) (s .owners) a key)
   unfolding standard
   standards key =
       chosen (Grounded s) _ _ _ (λ e. versions)
@@ -264,28 +251,31 @@ module _ (s : HandlerSight) (a : Args) where
     boards : (key : ℕ) → Grounded s (board s a key)
     unfolding board
     boards key =
-        chosen (Grounded s) _ _ _ (λ e. takings)
-        (λ e. chosen (Grounded s) _ _ _ (λ e. givings)
-        (λ e. chosen (Grounded s) _ _ _ (λ e. questions _ _ _)
+        chosen (Grounded s) _ _ _ (λ e. questions _ _ _)
         (λ e. chosen (Grounded s) _ _ _ (λ e. mappings _ (wanted a) (λ v. record { caller = may; verdict = v }))
         (λ e. chosen (Grounded s) _ _ _ (λ e. unmappings)
         (λ e. chosen (Grounded s) _ _ _ (λ e. leads _)
         (λ e. chosen (Grounded s) _ _ _ (λ e. answering s _)
-        (λ e. refusing s Reason.Unserved)))))))
+        (λ e. refusing s Reason.Unserved)))))
 
-    handlers : (key h : ℕ) → Grounded s (byHandler s a key h)
-    unfolding byHandler
-    handlers key h =
+    numbers : (key h : ℕ) → Grounded s (byNumber s a key h)
+    unfolding byNumber
+    numbers key h =
         chosen (Grounded s) _ _ _ (λ e. architectures key)
         (λ e. chosen (Grounded s) _ _ _ (λ e. boards key)
         (λ e. chosen (Grounded s) _ _ _ (λ e. standards key)
         (λ e. chosen (Grounded s) _ _ _ (λ e. trust key)
         (λ e. refusing s Reason.Unserved))))
 
+    rows : (key h : ℕ) (r : Row) → Grounded s (byRow s a key h r)
+    unfolding byRow
+    rows key h (Is t) = any-transfer t
+    rows key h NoTransfer = numbers key h
+
     lookups : (key : ℕ) (l : Lookup) → Grounded s (found s a key l)
     unfolding found
     lookups key Nobody = refusing s Reason.Unserved
-    lookups key (Handler h) = handlers key h
+    lookups key (Handler h) = rows key h (rowOf a h key)
 
 -- every judgement is grounded
 pub grounded : (s : Sight) (xs : List ℕ) → Grounded (s .inner) (judged s xs)

@@ -1,5 +1,5 @@
 -- What a call is answered, and what is to be done for it: the paper's table of calls, each call with its tests in order. The order of the whole judgement stands at the end.
-use mathlib.Core.Bool.{Bool, false, not, _&&_, _||_}
+use mathlib.Core.Bool.{Bool, true, false, not, _&&_, _||_}
 use mathlib.Core.List.{List, [], _∷_}
 use Prim.Native.Nat.{ℕ, _%_}
 use lib.Dec.{ltb, leb, eqb}
@@ -27,7 +27,7 @@ use Rattle.mapping.specs.declared.Verdict.{Verdict}
 use Rattle.mapping.specs.declared.Verdict.the-variants as Verdict
 use Rattle.mapping.specs.declared.Lead.{Lead}
 use Rattle.mapping.specs.declared.Lead.the-variants as Lead
-use Rattle.transfers.specs.Transfer.{moveVerdict, severalVerdict}
+use Rattle.transfers.specs.Transfer.{transferVerdict}
 use Rattle.transfers.specs.declared.Verdict.{Verdict as Moving}
 use Rattle.transfers.specs.declared.Verdict.the-variants as Moving
 use Rattle.rules.specs.Sizes.{secure, normal, realm}
@@ -39,6 +39,9 @@ use Rattle.judgements.specs.declared.Deed.the-variants as Deed
 use Rattle.judgements.specs.declared.Judged.{Judged}
 use Rattle.judgements.specs.declared.Caller.{Caller}
 use Rattle.judgements.specs.declared.Args.{Args}
+use Rattle.judgements.specs.declared.Transfer.{Transfer}
+use Rattle.judgements.specs.declared.Row.{Row}
+use Rattle.judgements.specs.declared.Row.the-variants.{Is, NoTransfer}
 
 -- what the handlers may look at: the caller and its board, the cores' power, the owners, and two lists of mappings, the caller's and Normal's
 pub record HandlerSight : Type 0 where
@@ -169,32 +172,42 @@ unfoldable pub powerFeaturing : Caller → Args → Judged
 powerFeaturing v a = tested (onlyFrom normal v ∷ []) (affirmed (oneOf (asked a) powerCalls))
 
 -- ---- page transfers
+-- a row of their table: the key of a call, and the transfer that it is
+pub record Listed : Type 0 where
+  pub key : ℕ
+  pub transfer : Transfer
+
+abbrev pub listed : ℕ → Bool → Bool → ℕ → Listed
+listed key both takes count = record { key = key; transfer = record { both = both; takes = takes; count = count } }
+
+-- by the handler: the key, whether Secure and Realm both may call or Realm alone, whether the caller takes pages from Normal or gives them to it, how many
+abbrev pub transfers : ℕ → Args → List Listed
+transfers h a =
+    pick (eqb h 2) (listed granuleToRealm false true 1 ∷ listed granuleToNormal false false 1 ∷ [])
+    (pick (eqb h 1) (listed takePages true true (a .x2) ∷ listed givePages true false (a .x2) ∷ []) [])
+
+-- the row of a call
+unfoldable pub rowIn : List Listed → ℕ → Row
+rowIn [] key = NoTransfer
+rowIn (l ∷ ls) key = pick (eqb key (l .key)) (Is (l .transfer)) (rowIn ls key)
+
+abbrev pub rowOf : Args → ℕ → ℕ → Row
+rowOf a h key = rowIn (transfers h a) key
+
+abbrev pub mayTransfer : Transfer → List ℕ
+mayTransfer t = pick (t .both) takers (realm ∷ [])
+
 -- what a transfer's verdict makes of the call
 unfoldable pub moving : Moving → ℕ → ℕ → Judged
 moving (Moving.Granted first) count to = granted Answer.Done (Deed.Move first count to)
 moving (Moving.No r) count to = denied r
 
--- one page from Normal to Realm
-unfoldable pub granuleIn : Caller → List ℕ → List Mapping → Args → Judged
-granuleIn v o theirs a =
-    tested (onlyFrom realm v ∷ []) (moving (moveVerdict (v .window) o theirs normal (a .x1) 1) 1 realm)
-
--- one page from Realm to Normal
-unfoldable pub granuleOut : Caller → List ℕ → List Mapping → Args → Judged
-granuleOut v o own a =
-    tested (onlyFrom realm v ∷ []) (moving (moveVerdict (v .window) o own (v .world) (a .x1) 1) 1 normal)
-
--- several pages from Normal to the caller
-unfoldable pub taking : Caller → List ℕ → List Mapping → Args → Judged
-taking v o theirs a =
-    tested (refuses (not (oneOf (v .world) takers)) Reason.Unserved ∷ [])
-    (moving (severalVerdict (v .window) o theirs normal (a .x1) (a .x2)) (a .x2) (v .world))
-
--- several pages from the caller to Normal
-unfoldable pub giving : Caller → List ℕ → List Mapping → Args → Judged
-giving v o own a =
-    tested (refuses (not (oneOf (v .world) takers)) Reason.Unserved ∷ [])
-    (moving (severalVerdict (v .window) o own (v .world) (a .x1) (a .x2)) (a .x2) normal)
+-- pages from x1 on, from Normal to the caller, or from the caller to Normal
+unfoldable pub transferring : Transfer → Caller → List ℕ → List Mapping → List Mapping → Args → Judged
+transferring t v o own theirs a =
+    tested (refuses (not (oneOf (v .world) (mayTransfer t))) Reason.Unserved ∷ [])
+    (pick (t .takes) (moving (transferVerdict (v .window) o theirs normal (a .x1) (t .count)) (t .count) (v .world))
+    (moving (transferVerdict (v .window) o own (v .world) (a .x1) (t .count)) (t .count) normal))
 
 -- ---- handler 1: the board
 -- whether the caller owns the page at this place
@@ -220,14 +233,12 @@ leading Lead.Nowhere = denied Reason.Nowhere
 
 unfoldable pub board : HandlerSight → Args → ℕ → Judged
 board s a key =
-    pick (eqb key takePages) (taking (s .caller) (s .owners) (s .theirs) a)
-    (pick (eqb key givePages) (giving (s .caller) (s .owners) (s .own) a)
-    (pick (eqb key ownsPage) (owning (s .owners) (pageOf (s .caller .window) (a .x1)) (s .caller .world))
+    pick (eqb key ownsPage) (owning (s .owners) (pageOf (s .caller .window) (a .x1)) (s .caller .world))
     (pick (eqb key mapPages) (mapping (mapVerdict (s .own) (s .owners) (s .caller .window) (s .caller .world) (wanted a)) (wanted a))
     (pick (eqb key unmapPages) (unmapping (s .own) a)
     (pick (eqb key whereLeads) (leading (leadOf (s .own) (a .x1)))
     (pick (eqb key countOn) (granted (Answer.Count (onCount (s .powers))) Deed.Nothing)
-    (denied Reason.Unserved)))))))
+    (denied Reason.Unserved)))))
 
 -- ---- hand-over and finish
 unfoldable pub handing : ℕ → Caller → Judged
@@ -241,37 +252,41 @@ finishing from v = tested (onlyFrom from v ∷ refuses (not (v .is_open)) Reason
 unfoldable pub handingToRealm : Caller → ℕ → Judged
 handingToRealm v key = tested (refuses (ltb key realmFirst) Reason.Unserved ∷ refuses (ltb realmLast key) Reason.Unserved ∷ []) (handing realm v)
 
--- single pages, and Realm's hand-over and finish
-unfoldable pub realmCall : Caller → List ℕ → List Mapping → List Mapping → Args → ℕ → Judged
-realmCall v o own theirs a key =
-    pick (eqb key granuleToRealm) (granuleIn v o theirs a)
-    (pick (eqb key granuleToNormal) (granuleOut v o own a)
-    (pick (eqb key realmFinish) (finishing realm v)
-    (handingToRealm v key)))
+-- Realm's finish and hand-over
+unfoldable pub realmCall : Caller → ℕ → Judged
+realmCall v key = pick (eqb key realmFinish) (finishing realm v) (handingToRealm v key)
 
-unfoldable pub standard : HandlerSight → Args → ℕ → Judged
-standard s a key =
-    pick (eqb key powerVersion) (versioning (s .caller))
-    (pick (eqb key coreOff) (goingOff (s .caller))
-    (pick (eqb key coreStart) (starting (s .caller) (s .powers) (s .owners) a)
-    (pick (eqb key coreStartWide) (starting (s .caller) (s .powers) (s .owners) a)
-    (pick (eqb key coreState) (tellingState (s .caller) (s .powers) a)
-    (pick (eqb key coreStateWide) (tellingState (s .caller) (s .powers) a)
-    (pick (eqb key powerFeatures) (powerFeaturing (s .caller) a)
-    (realmCall (s .caller) (s .owners) (s .own) (s .theirs) a key)))))))
+unfoldable pub standard : Caller → List ℕ → List ℕ → Args → ℕ → Judged
+standard v powers o a key =
+    pick (eqb key powerVersion) (versioning v)
+    (pick (eqb key coreOff) (goingOff v)
+    (pick (eqb key coreStart) (starting v powers o a)
+    (pick (eqb key coreStartWide) (starting v powers o a)
+    (pick (eqb key coreState) (tellingState v powers a)
+    (pick (eqb key coreStateWide) (tellingState v powers a)
+    (pick (eqb key powerFeatures) (powerFeaturing v a)
+    (realmCall v key)))))))
 
 -- ---- handler 3: the trusted system
 unfoldable pub trusted : Caller → ℕ → Judged
 trusted v key = pick (eqb key secureFinish) (finishing secure v) (handing secure v)
 
 -- ---- the whole judgement, in order
-unfoldable pub byHandler : HandlerSight → Args → ℕ → ℕ → Judged
-byHandler s a key h =
+-- a call that is no transfer
+unfoldable pub byNumber : HandlerSight → Args → ℕ → ℕ → Judged
+byNumber s a key h =
     pick (eqb h 0) (architecture a key)
     (pick (eqb h 1) (board s a key)
-    (pick (eqb h 2) (standard s a key)
+    (pick (eqb h 2) (standard (s .caller) (s .powers) (s .owners) a key)
     (pick (eqb h 3) (trusted (s .caller) key)
     (denied Reason.Unserved))))
+
+unfoldable pub byRow : HandlerSight → Args → ℕ → ℕ → Row → Judged
+byRow s a key h (Is t) = transferring t (s .caller) (s .owners) (s .own) (s .theirs) a
+byRow s a key h NoTransfer = byNumber s a key h
+
+abbrev pub byHandler : HandlerSight → Args → ℕ → ℕ → Judged
+byHandler s a key h = byRow s a key h (rowOf a h key)
 
 unfoldable pub found : HandlerSight → Args → ℕ → Lookup → Judged
 found s a key Nobody = denied Reason.Unserved

@@ -4,3 +4,4 @@ pub mod Laws
 pub mod Grounds
 pub mod Asked
 pub mod Decided
+pub mod Granules

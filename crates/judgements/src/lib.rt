@@ -85,6 +85,22 @@ impl Args {
     }
 }
 
+// A page transfer.
+pub struct Transfer {
+    // whether Secure and Realm both may call it, or Realm alone
+    pub both: bool,
+    // whether Normal gives and the caller takes, or the caller gives and Normal takes
+    pub takes: bool,
+    // how many pages
+    pub count: u64,
+}
+
+// What the table of transfers has for a call.
+pub enum Row {
+    Is(Transfer),
+    NoTransfer,
+}
+
 // What a call reads of the caller's eight numbers.
 pub struct Request {
     pub parts: Parts,

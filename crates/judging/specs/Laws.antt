@@ -13,7 +13,10 @@ use Rattle.ledger.specs.declared.Lookup.the-variants.{Handler, Nobody}
 use Rattle.judgements.specs.declared.Judged.{Judged}
 use Rattle.judgements.specs.declared.Args.{Args}
 use Rattle.judgements.specs.declared.Request.{Request}
-use Rattle.judgements.specs.Judge.{HandlerSight, calledBy, argsOf, denied, found, byHandler}
+use Rattle.judgements.specs.declared.Transfer.{Transfer}
+use Rattle.judgements.specs.declared.Row.{Row}
+use Rattle.judgements.specs.declared.Row.the-variants.{Is, NoTransfer}
+use Rattle.judgements.specs.Judge.{HandlerSight, calledBy, argsOf, denied, transferring, byNumber, byRow, found, byHandler}
 
 -- ---- what the ledger says
 module _ (s : HandlerSight) (a : Args) (key : ℕ) (k l : Lookup) (r : Judged) (same : k ≡ l) where
@@ -24,6 +27,18 @@ module _ (s : HandlerSight) (a : Args) (key : ℕ) (k l : Lookup) (r : Judged) (
   pub by-somebody : (h : ℕ) → k ≡ Handler h → r ≡ byHandler s a key h → r ≡ found s a key l
   unfolding found
   by-somebody h e g = rw (← same, e) g
+
+-- ---- what the table of transfers has
+module _ (s : HandlerSight) (a : Args) (key h : ℕ) (k l : Row) (r : Judged) (same : k ≡ l) where
+  pub by-transfer : (t : Transfer) → k ≡ Is t → r ≡ transferring t (s .caller) (s .owners) (s .own) (s .theirs) a → r ≡ byRow s a key h l
+  unfolding byRow
+  by-transfer t e g = rw (← same, e) g
+
+  pub by-other : k ≡ NoTransfer → r ≡ byNumber s a key h → r ≡ byRow s a key h l
+  unfolding byRow
+  by-other e g = rw (← same, e) g
+
+pub ruleset rows = (by-transfer, by-other, contraries)
 
 -- ---- the call that eight numbers make
 abbrev pub requestOf : List ℕ → Request

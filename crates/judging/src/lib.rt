@@ -13,6 +13,7 @@ use judgements::Args;
 use judgements::Caller;
 use judgements::Judged;
 use judgements::Request;
+use judgements::Row;
 use judgements::refuse;
 use ledger::Ledger;
 use ledger::Lookup;
@@ -46,7 +47,7 @@ fn read_args(p: Parts, x: &[u64; 8]) -> Args
     }
 }
 
-// What the handler makes of the call.
+// What the handler makes of the call: a transfer by its row, or what else it knows.
 fn by_handler(
     v: Caller,
     powers: &Powers,
@@ -58,13 +59,16 @@ fn by_handler(
 ) -> Judged
     ensures { λ r. ⌜ r ≡ byHandler (handlerSight v (now (powers .entry)) (now (owners .entry)) (held (now (lists .entry)) (v .world)) (held (now (lists .entry)) normal)) a key h ⌝ }
 {
-    match h {
-        0 => architecture_call(a, key),
-        1 => board_call(v, powers, owners, lists, a, key),
-        2 => standard_call(v, powers, owners, lists, a, key),
-        3 => trusted_call(v, key),
-        _ => refuse(Reason::Unserved),
-    }
+    let Row::Is(t) = page_calls::row_of(a, h, key) else {
+        return match h {
+            0 => architecture_call(a, key),
+            1 => board_call(v, powers, owners, lists, a, key),
+            2 => standard_call(v, powers, owners, a, key),
+            3 => trusted_call(v, key),
+            _ => refuse(Reason::Unserved),
+        };
+    };
+    page_calls::transfer(t, v, owners, lists, a)
 }
 
 // What a call reads of the caller's eight numbers: its identifier is split here, and nowhere else.

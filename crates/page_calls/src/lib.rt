@@ -1,26 +1,58 @@
-// Page transfers between Normal and the world that calls.
+// Page transfers between Normal and the world that calls: one operation, over the rows of a small table.
 ghost use mathlib.Core.Path.{_≡_};
 ghost use Rattle.mapping.specs.Lists.{held};
 ghost use Rattle.rules.specs.Sizes.{normal};
-ghost use Rattle.judgements.specs.Judge.{oneOf, takers, moving, granuleIn, granuleOut, taking, giving};
+ghost use Rattle.judgements.specs.Judge.{oneOf, rowOf, mayTransfer, moving, transferring};
+ghost use Rattle.judgements.specs.declared.Row.the-variants.{Is};
 use judgements::Answer;
 use judgements::Args;
 use judgements::Caller;
 use judgements::Deed;
 use judgements::Judged;
+use judgements::Row;
+use judgements::Transfer;
 use judgements::grant;
+use judgements::names;
 use judgements::refuse;
 use mapping::Lists;
 use pages::Owners;
 use rules::Reason;
 use transfers::Verdict;
 
-// Secure and Realm take pages and give them back.
-fn may_take(world: u64) -> bool
-    ensures { λ r. ⌜ r ≡ oneOf world takers ⌝ }
+// A row of the table of transfers.
+fn row(both: bool, takes: bool, count: u64) -> Row
+    ensures { λ r. ⌜ r ≡ Is (record { both = both; takes = takes; count = count }) ⌝ }
+{
+    Row::Is(Transfer { both, takes, count })
+}
+
+// The table of transfers: the row of a call, by its handler and key. x2 is read by those that name a count.
+pub fn row_of(a: Args, h: u64, key: u32) -> Row
+    ensures { λ r. ⌜ r ≡ rowOf a h key ⌝ }
+{
+    if h == 2 {
+        return match key {
+            names::GRANULE_TO_REALM => row(false, true, 1),
+            names::GRANULE_TO_NORMAL => row(false, false, 1),
+            _ => Row::NoTransfer,
+        };
+    }
+    if h == 1 {
+        return match key {
+            names::TAKE_PAGES => row(true, true, a.x2),
+            names::GIVE_PAGES => row(true, false, a.x2),
+            _ => Row::NoTransfer,
+        };
+    }
+    Row::NoTransfer
+}
+
+// Realm may call every transfer, and Secure some.
+fn may_transfer(t: Transfer, world: u64) -> bool
+    ensures { λ r. ⌜ r ≡ oneOf world (mayTransfer t) ⌝ }
 {
     match world {
-        rules::SECURE => true,
+        rules::SECURE => t.both,
         rules::REALM => true,
         _ => false,
     }
@@ -36,68 +68,25 @@ fn moved(t: Verdict, count: u64, to: u64) -> Judged
     }
 }
 
-// One page from Normal to Realm.
-pub fn granule_in(v: Caller, owners: &Owners, lists: &Lists, a: Args) -> Judged
-    ensures { λ r. ⌜ r ≡ granuleIn v (now (owners .entry)) (held (now (lists .entry)) normal) a ⌝ }
+// Pages from x1 on, from Normal to the caller, or from the caller to Normal.
+pub fn transfer(t: Transfer, v: Caller, owners: &Owners, lists: &Lists, a: Args) -> Judged
+    ensures { λ r. ⌜ r ≡ transferring t v (now (owners .entry)) (held (now (lists .entry)) (v .world)) (held (now (lists .entry)) normal) a ⌝ }
 {
-    if v.world != rules::REALM {
+    if !may_transfer(t, v.world) {
         return refuse(Reason::Unserved);
     }
-    let start = a.x1;
     let w = v.window;
-    moved(
-        transfers::judge(w, owners, lists, rules::NORMAL, start, 1),
-        1,
-        rules::REALM,
-    )
-}
-
-// One page from Realm to Normal.
-pub fn granule_out(v: Caller, owners: &Owners, lists: &Lists, a: Args) -> Judged
-    ensures { λ r. ⌜ r ≡ granuleOut v (now (owners .entry)) (held (now (lists .entry)) (v .world)) a ⌝ }
-{
-    if v.world != rules::REALM {
-        return refuse(Reason::Unserved);
+    let n = t.count;
+    if t.takes {
+        return moved(
+            transfers::judge(w, owners, lists, rules::NORMAL, a.x1, n),
+            n,
+            v.world,
+        );
     }
-    let start = a.x1;
-    let w = v.window;
     moved(
-        transfers::judge(w, owners, lists, v.world, start, 1),
-        1,
-        rules::NORMAL,
-    )
-}
-
-// Several pages from Normal to the caller.
-pub fn take_pages(v: Caller, owners: &Owners, lists: &Lists, a: Args) -> Judged
-    ensures { λ r. ⌜ r ≡ taking v (now (owners .entry)) (held (now (lists .entry)) normal) a ⌝ }
-{
-    if !may_take(v.world) {
-        return refuse(Reason::Unserved);
-    }
-    let start = a.x1;
-    let count = a.x2;
-    let w = v.window;
-    moved(
-        transfers::judge_several(w, owners, lists, rules::NORMAL, start, count),
-        count,
-        v.world,
-    )
-}
-
-// Several pages from the caller to Normal.
-pub fn give_pages(v: Caller, owners: &Owners, lists: &Lists, a: Args) -> Judged
-    ensures { λ r. ⌜ r ≡ giving v (now (owners .entry)) (held (now (lists .entry)) (v .world)) a ⌝ }
-{
-    if !may_take(v.world) {
-        return refuse(Reason::Unserved);
-    }
-    let start = a.x1;
-    let count = a.x2;
-    let w = v.window;
-    moved(
-        transfers::judge_several(w, owners, lists, v.world, start, count),
-        count,
+        transfers::judge(w, owners, lists, v.world, a.x1, n),
+        n,
         rules::NORMAL,
     )
 }

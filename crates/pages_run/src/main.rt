@@ -180,7 +180,7 @@ fn transfer(
     start: u64,
     count: u64,
 ) -> Answer {
-    match transfers::judge_several(w, owners, lists, from, start, count) {
+    match transfers::judge(w, owners, lists, from, start, count) {
         transfers::Verdict::Granted(first) => {
             pages::give(owners, first, count, to);
             Answer::Number(0)

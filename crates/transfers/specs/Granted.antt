@@ -1,14 +1,16 @@
 -- What a granted transfer says of its run, and what it leaves: the owner of each page, and the mappings of every world.
-use mathlib.Core.Path.{_≡_, refl}
-use mathlib.Core.Bool.{true, false}
+use mathlib.Core.Path.{_≡_, refl, ap, _∙_}
+use mathlib.Core.Bool.{true, false, not}
 use mathlib.Core.List.{List, [], _∷_}
 use Prim.Native.Nat.{ℕ, _+_, _≤_, _<_}
 use native.Mathlib.Omega.{arith}
 use lib.Dec.{eqb}
 use borrow.Author.Tests.{eqb-false, not-false}
+use Rattle.rules.specs.Choice.{pick, chosen}
 use Rattle.rules.specs.Tests.{Test, Clear, refuses, sieve, sieved}
+use Rattle.rules.specs.Reasons.{minus}
 use Rattle.rules.specs.declared.Reason.{Reason}
-use Rattle.rules.specs.declared.Reason.the-variants.{NoPages}
+use Rattle.rules.specs.declared.Reason.the-variants.{NoPages, Invalid, WrongOwner, Mapped}
 use Rattle.rules.specs.Sizes.{lastWorld, mostPages}
 use Rattle.pages.specs.Window.{acceptable, runOf}
 use Rattle.pages.specs.Owners.{WholeOwners, owner, owned, given, owned-at, owned-ends, given-inside}
@@ -18,7 +20,7 @@ use Rattle.pages.specs.declared.Place.the-variants.{Page, Outside}
 use Rattle.mapping.specs.Mapping.{meetsRun}
 use Rattle.mapping.specs.Sound.{Sound, unmet-run, given-keeps}
 use Rattle.ranges.specs.declared.Mapping.{Mapping}
-use Rattle.transfers.specs.Transfer.{moveTests, moveVerdict, severalVerdict}
+use Rattle.transfers.specs.Transfer.{moveTests, transferVerdict}
 use Rattle.transfers.specs.declared.Verdict.{Verdict}
 use Rattle.transfers.specs.declared.Verdict.the-variants.{Granted, No}
 
@@ -45,14 +47,11 @@ module _ (w : Window) (o : List ℕ) (list : List Mapping) (from start count fir
       record { lies = rw (← y) e; mine = rw (← y) (not-false _ (c .0 .0)); unmet = c .0 .1 .0 }
   there-granted Outside e g = let y : _≡_ {A = ℕ} 0 1 = cc in absurd (omega arith)
 
-  pub move-granted : moveVerdict w o list from start count ≡ Granted first → Movable w o list from start count first
-  unfolding moveVerdict
-  move-granted g = there-granted (runOf w start count) refl g
-
-  pub several-granted : severalVerdict w o list from start count ≡ Granted first → (moveVerdict w o list from start count ≡ Granted first) × (count ≡ 0 → ⊥)
-  unfolding severalVerdict Clear
-  several-granted g =
-      let c = passes (refuses (eqb count 0) NoPages ∷ []) (moveVerdict w o list from start count) first g in (c .1, eqb-false _ _ (c .0 .0))
+  -- there is a page, and the run may move
+  pub transfer-granted : transferVerdict w o list from start count ≡ Granted first → Movable w o list from start count first × (count ≡ 0 → ⊥)
+  unfolding transferVerdict Clear
+  transfer-granted g =
+      let c = passes (refuses (eqb count 0) NoPages ∷ []) _ first g in (there-granted (runOf w start count) refl (c .1), eqb-false _ _ (c .0 .0))
 
   -- ---- the owners after a transfer
   module _ (m : Movable w o list from start count first) (page : ℕ) where
@@ -75,3 +74,17 @@ pub moved-keeps :
     (world : ℕ) → Sound w (given o first count to) world (lists world)
 moved-keeps w o lists from start count first to ok m s world =
     given-keeps w o lists first count from to (m .mine) (unmet-run w (lists from) start count first ok (m .lies) (m .unmet)) s world
+
+-- A count of one never meets -5.
+pub one-page : (w : Window) (o : List ℕ) (list : List Mapping) (from start : ℕ) (r : Reason) → transferVerdict w o list from start 1 ≡ No r → minus r ≡ 5 → ⊥
+unfolding transferVerdict moveTests sieve pick
+one-page w o list from start r e m = never (runOf w start 1) e
+  where
+    another : (q : Reason) → (minus q ≡ 5 → ⊥) → No q ≡ No r → ⊥
+    another q n e = let z : q ≡ r = cc in n (ap minus z ∙ m)
+
+    never : (k : Place) → moveTests k o list from start 1 ≡ No r → ⊥
+    never Outside e = another Invalid (λ z. omega arith) e
+    never (Page first) e =
+        chosen (λ (v : Verdict). v ≡ No r → ⊥) (not (owned o first 1 from)) _ _ (λ y. another WrongOwner (λ z. omega arith))
+        (λ n. chosen (λ (v : Verdict). v ≡ No r → ⊥) (meetsRun list start 1) _ _ (λ y. another Mapped (λ z. omega arith)) (λ n e. let z : _≡_ {A = ℕ} 0 1 = cc in absurd (omega arith))) e

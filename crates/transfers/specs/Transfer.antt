@@ -26,14 +26,10 @@ moveTests (Page first) o list from start count =
     ∷ [])
     (Granted first)
 
--- first where the run lies, then whose its pages are, then whether one of them is mapped
-unfoldable pub moveVerdict : Window → List ℕ → List Mapping → ℕ → ℕ → ℕ → Verdict
-moveVerdict w o list from start count = moveTests (runOf w start count) o list from start count
-
--- the calls that name a count test it first
-unfoldable pub severalVerdict : Window → List ℕ → List Mapping → ℕ → ℕ → ℕ → Verdict
-severalVerdict w o list from start count =
-    sieve No (refuses (eqb count 0) NoPages ∷ []) (moveVerdict w o list from start count)
+-- first that there is a page at all, then where the run lies, then whose its pages are, then whether one of them is mapped
+unfoldable pub transferVerdict : Window → List ℕ → List Mapping → ℕ → ℕ → ℕ → Verdict
+transferVerdict w o list from start count =
+    sieve No (refuses (eqb count 0) NoPages ∷ []) (moveTests (runOf w start count) o list from start count)
 
 -- ---- how the code's branches meet these
 module _ (k l : Place) (o : List ℕ) (list : List Mapping) (from start count : ℕ) (r : Verdict) (same : k ≡ l) where

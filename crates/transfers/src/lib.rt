@@ -1,7 +1,7 @@
 // Whether a run of pages may change its owner, and which run it is.
 ghost use mathlib.Core.Path.{_≡_};
 ghost use Rattle.mapping.specs.Lists.{held};
-ghost use Rattle.transfers.specs.Transfer.{moveVerdict, severalVerdict};
+ghost use Rattle.transfers.specs.Transfer.{transferVerdict};
 use mapping::Lists;
 use pages::Owners;
 use pages::Place;
@@ -23,8 +23,11 @@ pub fn judge(
     start: u64,
     count: u64,
 ) -> Verdict
-    ensures { λ r. ⌜ r ≡ moveVerdict w (now (owners .entry)) (held (now (lists .entry)) from) from start count ⌝ }
+    ensures { λ r. ⌜ r ≡ transferVerdict w (now (owners .entry)) (held (now (lists .entry)) from) from start count ⌝ }
 {
+    if count == 0 {
+        return Verdict::No(Reason::NoPages);
+    }
     let Place::Page(first) = w.run_of(start, count) else {
         return Verdict::No(Reason::Invalid);
     };
@@ -35,21 +38,4 @@ pub fn judge(
         return Verdict::No(Reason::Mapped);
     }
     Verdict::Granted(first)
-}
-
-// The same for the calls that name a count, which may be none.
-pub fn judge_several(
-    w: Window,
-    owners: &Owners,
-    lists: &Lists,
-    from: u64,
-    start: u64,
-    count: u64,
-) -> Verdict
-    ensures { λ r. ⌜ r ≡ severalVerdict w (now (owners .entry)) (held (now (lists .entry)) from) from start count ⌝ }
-{
-    if count == 0 {
-        return Verdict::No(Reason::NoPages);
-    }
-    judge(w, owners, lists, from, start, count)
 }

@@ -1,15 +1,9 @@
 -- Each arm of `board_call` is reached by the key that `board` picks it for.
 use borrow.Author.Needs.{needs}
-use Rattle.judgements.specs.Judge.{board}
-use Rattle.rules.specs.Tests.{contraries}
 use Rattle.board.proofs.board_call.Statement.{statement}
 use Rattle.board.proofs.board_call.Tie as tie
-
-take-pages-requires : tie.Need-take-pages-requires
-take-pages-requires c κs = search needs
-
-give-pages-requires : tie.Need-give-pages-requires
-give-pages-requires c κs = search needs
+use Rattle.judgements.specs.Judge.{board}
+use Rattle.rules.specs.Tests.{contraries}
 
 own-page-requires : tie.Need-own-page-requires
 own-page-requires c κs = search needs
@@ -53,20 +47,10 @@ returns-6 : tie.Need-returns-6
 unfolding board
 returns-6 c = search contraries fits 20000 depth 40
 
-returns-7 : tie.Need-returns-7
-unfolding board
-returns-7 c = search contraries fits 20000 depth 40
-
-returns-8 : tie.Need-returns-8
-unfolding board
-returns-8 c = search contraries fits 20000 depth 40
-
 pub board-call-spec : {M : Type 1} → statement M
 board-call-spec =
     tie.close
     (tie.spec
-    take-pages-requires
-    give-pages-requires
     own-page-requires
     map-pages-requires
     unmap-pages-requires
@@ -78,6 +62,4 @@ board-call-spec =
     returns-3
     returns-4
     returns-5
-    returns-6
-    returns-7
-    returns-8)
+    returns-6)

@@ -1,9 +1,18 @@
--- Each arm of `by_handler` is reached by the handler that `byHandler` picks it for.
+-- A transfer is known by its row; of the rest each arm is reached by the handler that `byNumber` picks it for.
 use borrow.Author.Needs.{needs}
-use Rattle.judgements.specs.Judge.{byHandler}
-use Rattle.rules.specs.Tests.{contraries}
+use Rattle.judgements.specs.Judge.{byNumber}
+use Rattle.judging.specs.Laws.{rows}
 use Rattle.judging.proofs.by_handler.Statement.{statement}
 use Rattle.judging.proofs.by_handler.Tie as tie
+
+row-of-requires : tie.Need-row-of-requires
+row-of-requires c κs = search needs
+
+enum-known-t : tie.Need-enum-known-t
+enum-known-t c = search needs
+
+enum-told : tie.Need-enum-told
+enum-told c = search needs
 
 architecture-call-requires : tie.Need-architecture-call-requires
 architecture-call-requires c κs = search needs
@@ -21,29 +30,39 @@ refuse-requires : tie.Need-refuse-requires
 refuse-requires c κs = search needs
 
 returns : tie.Need-returns
-unfolding byHandler
-returns c = search contraries depth 20
+unfolding byNumber
+returns c = search rows depth 20
 
 returns-2 : tie.Need-returns-2
-unfolding byHandler
-returns-2 c = search contraries depth 20
+unfolding byNumber
+returns-2 c = search rows depth 20
 
 returns-3 : tie.Need-returns-3
-unfolding byHandler
-returns-3 c = search contraries depth 20
+unfolding byNumber
+returns-3 c = search rows depth 20
 
 returns-4 : tie.Need-returns-4
-unfolding byHandler
-returns-4 c = search contraries depth 20
+unfolding byNumber
+returns-4 c = search rows depth 20
 
 returns-5 : tie.Need-returns-5
-unfolding byHandler
-returns-5 c = search contraries depth 20
+unfolding byNumber
+returns-5 c = search rows depth 20
+
+transfer-requires : tie.Need-transfer-requires
+transfer-requires c κs = search needs
+
+returns-6 : tie.Need-returns-6
+unfolding byNumber
+returns-6 c = search rows depth 20
 
 pub by-handler-spec : {M : Type 1} → statement M
 by-handler-spec =
     tie.close
     (tie.spec
+    row-of-requires
+    enum-known-t
+    enum-told
     architecture-call-requires
     board-call-requires
     standard-call-requires
@@ -53,4 +72,6 @@ by-handler-spec =
     returns-2
     returns-3
     returns-4
-    returns-5)
+    returns-5
+    transfer-requires
+    returns-6)

@@ -1,15 +1,9 @@
 -- Each arm of `realm_call` is reached by the key that `realmCall` picks it for.
 use borrow.Author.Needs.{needs}
-use Rattle.judgements.specs.Judge.{realmCall}
-use Rattle.rules.specs.Tests.{contraries}
 use Rattle.standard.proofs.realm_call.Statement.{statement}
 use Rattle.standard.proofs.realm_call.Tie as tie
-
-granule-in-requires : tie.Need-granule-in-requires
-granule-in-requires c κs = search needs
-
-granule-out-requires : tie.Need-granule-out-requires
-granule-out-requires c κs = search needs
+use Rattle.judgements.specs.Judge.{realmCall}
+use Rattle.rules.specs.Tests.{contraries}
 
 finish-requires : tie.Need-finish-requires
 finish-requires c κs = search needs
@@ -25,23 +19,5 @@ returns-2 : tie.Need-returns-2
 unfolding realmCall
 returns-2 c = search contraries depth 20
 
-returns-3 : tie.Need-returns-3
-unfolding realmCall
-returns-3 c = search contraries depth 20
-
-returns-4 : tie.Need-returns-4
-unfolding realmCall
-returns-4 c = search contraries depth 20
-
 pub realm-call-spec : {M : Type 1} → statement M
-realm-call-spec =
-    tie.close
-    (tie.spec
-    granule-in-requires
-    granule-out-requires
-    finish-requires
-    hand-to-realm-requires
-    returns
-    returns-2
-    returns-3
-    returns-4)
+realm-call-spec = tie.close (tie.spec finish-requires hand-to-realm-requires returns returns-2)

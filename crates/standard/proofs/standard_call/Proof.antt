@@ -1,9 +1,9 @@
 -- Each arm of `standard_call` is reached by the key that `standard` picks it for.
 use borrow.Author.Needs.{needs}
-use Rattle.judgements.specs.Judge.{standard}
-use Rattle.rules.specs.Tests.{contraries}
 use Rattle.standard.proofs.standard_call.Statement.{statement}
 use Rattle.standard.proofs.standard_call.Tie as tie
+use Rattle.judgements.specs.Judge.{standard}
+use Rattle.rules.specs.Tests.{contraries}
 
 power-version-requires : tie.Need-power-version-requires
 power-version-requires c κs = search needs

@@ -1,0 +1,50 @@
+-- A world that may call is told what the verdict makes of the call, whichever way the pages go.
+use borrow.Author.Needs.{needs}
+use Rattle.judgements.specs.Judge.{transferring}
+use Rattle.page_calls.specs.Laws.{moves}
+use Rattle.page_calls.proofs.transfer.Statement.{statement}
+use Rattle.page_calls.proofs.transfer.Tie as tie
+
+may-transfer-requires : tie.Need-may-transfer-requires
+may-transfer-requires c κs = search needs
+
+refuse-requires : tie.Need-refuse-requires
+refuse-requires c κs = search needs
+
+returns : tie.Need-returns
+unfolding transferring
+returns c = search moves depth 20
+
+judge-requires : tie.Need-judge-requires
+judge-requires c κs = search needs
+
+moved-requires : tie.Need-moved-requires
+moved-requires c κs = search needs
+
+returns-2 : tie.Need-returns-2
+unfolding transferring
+returns-2 c = search moves depth 20
+
+judge-requires-2 : tie.Need-judge-requires-2
+judge-requires-2 c κs = search needs
+
+moved-requires-2 : tie.Need-moved-requires-2
+moved-requires-2 c κs = search needs
+
+returns-3 : tie.Need-returns-3
+unfolding transferring
+returns-3 c = search moves depth 20
+
+pub transfer-spec : {M : Type 1} → statement M
+transfer-spec =
+    tie.close
+    (tie.spec
+    may-transfer-requires
+    refuse-requires
+    returns
+    judge-requires
+    moved-requires
+    returns-2
+    judge-requires-2
+    moved-requires-2
+    returns-3)
