@@ -22,10 +22,10 @@ module _ (s : HandlerSight) (a b : Args) (by : s .caller .world ≡ realm) (same
 -- The table in the paper's numbers: who may call besides Realm, whether the caller takes, and how many pages.
 pub rows-listed : (a : Args) →
     (rowOf a 2 0xC40001B0 ≡ Is (record { both = false; takes = true; count = 1 })) × (
-      (rowOf a 2 0xC40001B1 ≡ Is (record { both = false; takes = false; count = 1 })) × (
-        (rowOf a 1 0xC2000010 ≡ Is (record { both = true; takes = true; count = a .x2 })) ×
-        (rowOf a 1 0xC2000011 ≡ Is (record { both = true; takes = false; count = a .x2 }))
-      )
+    (rowOf a 2 0xC40001B1 ≡ Is (record { both = false; takes = false; count = 1 })) × (
+    (rowOf a 1 0xC2000010 ≡ Is (record { both = true; takes = true; count = a .x2 })) ×
+    (rowOf a 1 0xC2000011 ≡ Is (record { both = true; takes = false; count = a .x2 }))
+    )
     )
 unfolding rowIn pick
 rows-listed a = (refl, (refl, (refl, refl)))
