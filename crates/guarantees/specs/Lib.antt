@@ -9,6 +9,7 @@ pub mod Statements
 pub mod Met
 pub mod Counted
 pub mod Steps
+pub mod HandedOver
 pub mod After
 pub mod Printed
 pub mod Theorems

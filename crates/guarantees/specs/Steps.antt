@@ -115,10 +115,10 @@ module _ (m : Machine) (fit : Fit m) (e : Event) (core : ℕ) (is : e .0 ≡ Fra
       let r = called-for (sight s core) xs Finish (λ k. let z : _≡_ {A = ℕ} 0 1 = cc in omega arith) d in
       partly r (λ h k. k .0)
 
-  goes-off : SwitchesOff m core xs → deed ≡ GoOff
+  pub goes-off : SwitchesOff m core xs → deed ≡ GoOff
   goes-off a = asked-off (sight s core) xs (may m fit e core is t) (a .0) (a .1)
 
-  off-asked : deed ≡ GoOff → SwitchesOff m core xs
+  pub off-asked : deed ≡ GoOff → SwitchesOff m core xs
   off-asked d =
       let r = called-for (sight s core) xs GoOff (λ k. let z : _≡_ {A = ℕ} 0 1 = cc in omega arith) d in
       (rw d at (grounded (sight s core) xs .stands), partly r (λ h k. k .0))

@@ -18,6 +18,7 @@ use Rattle.cores.specs.Cores.{power, first-power-zero, first-power-other, first
 use Rattle.pages.specs.Owners.{unowned-owner}
 use Rattle.rules.specs.Sizes.{normal}
 use Rattle.judgements.specs.Judge.{calledBy, argsOf, found}
+use Rattle.judgements.specs.Grounds.{Takes}
 use Rattle.calls.specs.Step.{sight, judgedIn}
 use Rattle.hex.specs.Hex.{value, inHex}
 use Rattle.lines.specs.Lines.{linesOf}
@@ -39,6 +40,7 @@ use Rattle.guarantees.specs.Statements.{Guaranteed, Heeded, ownerIn, run
 use Rattle.parsing.specs.declared.Status.the-variants.{Accepted}
 use Rattle.guarantees.specs.Started.{LastStart, pending-started}
 use Rattle.guarantees.specs.Steps.{heeded}
+use Rattle.guarantees.specs.HandedOver.{OpenHandOver, away-handed}
 use Rattle.guarantees.specs.After.{guaranteed-after}
 use Rattle.guarantees.specs.Printed.{Small, AllFit, line-small, fits-first, digits-value}
 
@@ -55,6 +57,10 @@ module _ (run : Events) (m : Machine) (given : List Reply) (f : Follows first ru
   -- All that is guaranteed of the machine and the answers holds.
   pub any-run : Guaranteed first run m given
   any-run = by-following (Guaranteed first run) f (guaranteed-after first first-fit run)
+
+  -- Where a core runs Secure or Realm, the run has an accepted hand-over to that world on that core, and no accepted finish, OFF or arrival on it since.
+  pub any-away : (core : ℕ) → Takes (running m core) → OpenHandOver first run core (running m core)
+  any-away core k = rw (follows-is f .0) (away-handed core run (rw (follows-is f .0) at k))
 
   module _ (e : Event) (last : Machine) (answer : Reply) (step : Allowed m e last answer) where
     -- Whatever line comes next is heeded.
