@@ -103,7 +103,7 @@ never-own v (Unmap virt size) g r = r
 never-own v (Start c a x) g r = r
 never-own v GoOff g r = r
 never-own v (HandOver to) g r = ⊎-elim (λ (e : to ≡ secure). omega (arith, g .0)) (λ (e : to ≡ realm). omega (arith, g .0)) (g .1)
-never-own v Finish g r = ⊎-elim (λ (e : v .caller .world ≡ secure). omega arith) (λ (e : v .caller .world ≡ realm). omega arith) (g .0)
+never-own v Finish g r = ⊎-elim (λ (e : v .caller .world ≡ secure). omega arith) (λ (e : v .caller .world ≡ realm). omega arith) g
 
 module _ (s : State) (core : ℕ) (xs : List ℕ) where
   saved-is : after s core xs .saved ≡ carriedIn (deedIn s core xs) (answeredAt s core xs) core (callerOf s core) xs .saved
@@ -155,7 +155,7 @@ module _ (s : State) (core : ℕ) (xs : List ℕ) where
         (λ y z. ⊎-elim (λ (y : to ≡ secure). omega (arith, hands .0)) (λ (y : to ≡ realm). omega (arith, hands .0)) (hands .1)))
 
   module _ (e : deedIn s core xs ≡ Finish) where
-    pub finishes : Takes (callerOf s core) × (turn (s .turns) core .is_open ≡ true)
+    pub finishes : Takes (callerOf s core)
     finishes = rw e at (grounded (sight s core) xs .stands)
 
     -- A finish gives Normal the finisher's x1 and on as its x0 and on.
@@ -172,7 +172,7 @@ module _ (s : State) (core : ℕ) (xs : List ℕ) where
         let n : length (finishNumbers (callerOf s core) xs) ≤ returned (callerOf s core) = simp (length-take, length-drop) (omega arith) in
         rw (saved-is, e) (saving-past (answeredAt s core xs .saved) core normal (finishNumbers (callerOf s core) xs) j (omega arith)
         ∙ answered-other (s .saved) core (callerOf s core) xs (answerIn s core xs) core normal j
-        (λ y z. ⊎-elim (λ (k : callerOf s core ≡ secure). omega arith) (λ (k : callerOf s core ≡ realm). omega arith) (finishes .0)))
+        (λ y z. ⊎-elim (λ (k : callerOf s core ≡ secure). omega arith) (λ (k : callerOf s core ≡ realm). omega arith) finishes))
 
 -- ---- owners
 -- the deeds that change owners

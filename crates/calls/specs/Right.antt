@@ -31,11 +31,10 @@ use Rattle.calls.specs.Step.{State, state, sight, callerOf, tablesOf, wi
 use Rattle.calls.specs.declared.Site.{Site}
 use Rattle.calls.specs.Effects.{deedIn, answerIn, after, afterArrival, arrival-by, WholeTables}
 
--- what a core runs, beside its power: Normal with nothing open, or Secure or Realm, where the core is ON and a hand-over is open
+-- what a core runs, beside its power: Normal, or Secure or Realm, where the core is ON
 pub record Running (t : Turn) (p : Power) : Type 0 where
   pub world : Calls (t .world)
-  pub home : t .world ≡ normal → t .is_open ≡ false
-  pub away : (t .world ≡ normal → ⊥) → (t .is_open ≡ true) × (isOn p ≡ true)
+  pub away : (t .world ≡ normal → ⊥) → isOn p ≡ true
 
 pub record Right (s : State) : Type 0 where
   -- the window and the core count are such as set-up takes
@@ -55,22 +54,17 @@ pub record Right (s : State) : Type 0 where
 module _ (t : Turn) (p : Power) (h : Running t p) (q : Power) where
   -- Normal may run at any power
   home-running : t .world ≡ normal → Running t q
-  home-running e = record { world = h .world; home = h .home; away = λ n. absurd (n e) }
+  home-running e = record { world = h .world; away = λ n. absurd (n e) }
 
   -- a core that is not ON runs Normal
   off-running : isOn p ≡ false → Running t q
-  off-running e = record { world = h .world; home = h .home; away = λ n. absurd (yes-or-no _ (h .away n .1) e) }
+  off-running e = record { world = h .world; away = λ n. absurd (yes-or-no _ (h .away n) e) }
 
-normal-running : (p : Power) → Running (turnOf normal false) p
-normal-running p = record { world = inl refl; home = λ e. refl; away = λ n. absurd (n refl) }
+normal-running : (p : Power) → Running (turnOf normal) p
+normal-running p = record { world = inl refl; away = λ n. absurd (n refl) }
 
-handed-running : (to : ℕ) (p : Power) → Takes to → isOn p ≡ true → Running (turnOf to true) p
-handed-running to p t o =
-    record {
-      world = inr t;
-      home = λ e. ⊎-elim (λ (y : to ≡ secure). absurd (omega arith)) (λ (y : to ≡ realm). absurd (omega arith)) t;
-      away = λ n. (refl, o);
-    }
+handed-running : (to : ℕ) (p : Power) → Takes to → isOn p ≡ true → Running (turnOf to) p
+handed-running to p t o = record { world = inr t; away = λ n. o }
 
 -- a core is the one, or another
 same-or-other : {P : Type 0} (c core : ℕ) → (c ≡ core → P) → ((c ≡ core → ⊥) → P) → P

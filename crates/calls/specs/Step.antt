@@ -34,7 +34,7 @@ state w l o r p t m = record { site = w; ledger = l; owners = o; saved = r; powe
 
 -- ---- what a judgement sees
 abbrev pub callerOn : Site → List ℕ → ℕ → Caller
-callerOn w turns core = record { world = turn turns core .world; is_open = turn turns core .is_open; cores = w .cores; window = w .window }
+callerOn w turns core = record { world = turn turns core .world; cores = w .cores; window = w .window }
 
 abbrev pub sight : State → ℕ → Sight
 sight s core =

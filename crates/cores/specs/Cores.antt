@@ -1,19 +1,18 @@
 -- The tables of eight cores: each core's power, and each core's turn. Shut: only the laws below say what stands where.
--- There is no ninth core: one past the eighth reads as OFF, in no world that calls and with nothing open, and writing there changes nothing.
-use mathlib.Core.Path.{_≡_, refl, sym, _∙_}
-use mathlib.Core.Bool.{false}
-use mathlib.Core.List.{List, [], _∷_}
-use Prim.Native.Nat.{ℕ, zero, suc, _+_, _-_, _*_, _^_, _≤_, _<_}
+-- There is no ninth core: one past the eighth reads as OFF and in no world that calls, and writing there changes nothing.
+use mathlib.Core.Path.{_≡_, refl, _∙_}
+use mathlib.Core.List.{List}
+use Prim.Native.Nat.{ℕ, suc, _+_, _-_, _*_, _^_, _≤_, _<_}
 use native.Mathlib.Nat.{pow-le-pow-right}
 use native.Mathlib.Omega.{arith}
-use lib.Dec.{eqb, ltb}
+use lib.Dec.{ltb}
 use lib.Count.{ones}
 use lib.ListN.{getD, set, replicate}
 use borrow.Author.Tests.{ltb-true, ltb-false}
 use Rattle.rules.specs.Sizes.{root, normal, mostCores}
 use Rattle.rules.specs.Choice.{either}
 use Rattle.tools.specs.Store.{read, write, Whole, read-in, write-in, write-out, write-same, write-other, write-whole, blank-whole, blank-read, past-read}
-use Rattle.cores.specs.Count.{bit, bit-told, count, mask, ones-mask, mask-fits, count-le}
+use Rattle.cores.specs.Count.{bit, count, mask, ones-mask, mask-fits, count-le}
 use Rattle.cores.specs.Power.{powerOf, turnOf, off, on, isOn}
 use Rattle.cores.specs.declared.Power.{Power}
 use Rattle.cores.specs.declared.Turn.{Turn}
@@ -23,7 +22,7 @@ abbrev powers : ℕ
 powers = 3 * mostCores
 
 abbrev turns : ℕ
-turns = 2 * mostCores
+turns = mostCores
 
 -- ---- power: state, start address and context of each core
 pub power : List ℕ → ℕ → Power
@@ -48,23 +47,19 @@ onCount t = count (λ core. isOn (power t core)) 0 mostCores
 pub onMask : List ℕ → ℕ
 onMask t = mask (λ core. isOn (power t core)) 0 mostCores
 
--- ---- turn: running world and open hand-over of each core
+-- ---- turn: running world of each core
 pub turn : List ℕ → ℕ → Turn
-turn t core = turnOf (read turns t (2 * core)) (eqb (read turns t (2 * core + 1)) 1)
+turn t core = turnOf (read turns t core)
 
 pub withTurn : List ℕ → ℕ → Turn → List ℕ
-withTurn t core r = write turns (write turns t (2 * core) (r .world)) (2 * core + 1) (bit (r .is_open))
+withTurn t core r = write turns t core (r .world)
 
 pub WholeTurns : List ℕ → Type 0
 WholeTurns t = Whole turns t
 
--- n cores that run Normal, with nothing open
-resting : ℕ → List ℕ
-resting zero = []
-resting (suc n) = normal ∷ 0 ∷ resting n
-
+-- every core runs Normal
 pub firstTurns : List ℕ
-firstTurns = resting mostCores
+firstTurns = replicate turns normal
 
 -- ---- what this crate's code reads and writes
 module _ (t : List ℕ) (core : ℕ) where
@@ -94,22 +89,21 @@ module _ (t : List ℕ) (core : ℕ) where
       ∙ write-out powers _ (3 * core + 1) (p .start) (omega arith)
       ∙ write-out powers _ (3 * core + 2) (p .context) (omega arith)
 
-  pub turn-in : core < mostCores → turnOf (getD t (2 * core) 0) (eqb (getD t (2 * core + 1) 0) 1) ≡ turn t core
+  pub turn-in : core < mostCores → turnOf (getD t core 0) ≡ turn t core
   unfolding turn
-  turn-in h = rw (read-in turns t (2 * core) (omega arith), read-in turns t (2 * core + 1) (omega arith))
+  turn-in h = rw (read-in turns t core h)
 
-  pub turn-out : mostCores ≤ core → turnOf root false ≡ turn t core
+  pub turn-out : mostCores ≤ core → turnOf root ≡ turn t core
   unfolding turn
-  turn-out h = rw (past-read turns t (2 * core) (omega arith), past-read turns t (2 * core + 1) (omega arith))
+  turn-out h = rw (past-read turns t core h)
 
-  pub with-turn-in : (r : Turn) (d : ℕ) → core < mostCores → d ≡ bit (r .is_open) → set (set t (2 * core) (r .world)) (2 * core + 1) d ≡ withTurn t core r
+  pub with-turn-in : (r : Turn) → core < mostCores → set t core (r .world) ≡ withTurn t core r
   unfolding withTurn
-  with-turn-in r d h e =
-      rw (e, write-in turns t (2 * core) (r .world) (omega arith)) (write-in turns _ (2 * core + 1) (bit (r .is_open)) (omega arith))
+  with-turn-in r h = write-in turns t core (r .world) h
 
   pub with-turn-out : (r : Turn) → mostCores ≤ core → t ≡ withTurn t core r
   unfolding withTurn
-  with-turn-out r h = write-out turns t (2 * core) (r .world) (omega arith) ∙ write-out turns _ (2 * core + 1) (bit (r .is_open)) (omega arith)
+  with-turn-out r h = write-out turns t core (r .world) h
 
 pub ruleset slots = (power-in, power-out, with-power-in, with-power-out, turn-in, turn-out, with-turn-in, with-turn-out)
 
@@ -155,33 +149,17 @@ module _ (t : List ℕ) (core : ℕ) (p : Power) where
       )
 
 module _ (t : List ℕ) (core : ℕ) (r : Turn) where
-  -- the table once the world is written
-  abbrev ran : List ℕ
-  ran = write turns t (2 * core) (r .world)
-
   pub with-turn-whole : WholeTurns t → WholeTurns (withTurn t core r)
   unfolding withTurn WholeTurns
-  with-turn-whole w = write-whole turns ran _ _ (write-whole turns t _ _ w)
+  with-turn-whole w = write-whole turns t _ _ w
 
   pub turn-same : WholeTurns t → core < mostCores → turn (withTurn t core r) core ≡ r
   unfolding turn withTurn WholeTurns
-  turn-same w h =
-      rw (
-        write-other turns ran (2 * core + 1) (bit (r .is_open)) (2 * core) (λ e. omega arith),
-        write-same turns t (2 * core) (r .world) w (omega arith),
-        write-same turns ran (2 * core + 1) (bit (r .is_open)) (write-whole turns t _ _ w) (omega arith),
-        bit-told (r .is_open),
-      )
+  turn-same w h = rw (write-same turns t core (r .world) w h)
 
   pub turn-other : (other : ℕ) → (other ≡ core → ⊥) → turn (withTurn t core r) other ≡ turn t other
   unfolding turn withTurn
-  turn-other other d =
-      rw (
-        write-other turns ran (2 * core + 1) (bit (r .is_open)) (2 * other) (λ e. omega arith),
-        write-other turns t (2 * core) (r .world) (2 * other) (λ e. d (omega arith)),
-        write-other turns ran (2 * core + 1) (bit (r .is_open)) (2 * other + 1) (λ e. d (omega arith)),
-        write-other turns t (2 * core) (r .world) (2 * other + 1) (λ e. omega arith),
-      )
+  turn-other other d = rw (write-other turns t core (r .world) other d)
 
 -- ---- the tables at the start
 zeros-read : (i : ℕ) → read powers (replicate powers 0) i ≡ 0
@@ -218,33 +196,17 @@ first-power-other core d =
       zeros-read (3 * core + 2),
     )
 
-pub first-turns-are : (normal ∷ 0 ∷ normal ∷ 0 ∷ normal ∷ 0 ∷ normal ∷ 0 ∷ normal ∷ 0 ∷ normal ∷ 0 ∷ normal ∷ 0 ∷ normal ∷ 0 ∷ []) ≡ firstTurns
-unfolding firstTurns resting
+pub first-turns-are : replicate turns normal ≡ firstTurns
+unfolding firstTurns
 first-turns-are = refl
 
 pub first-turns-whole : WholeTurns firstTurns
-unfolding firstTurns resting WholeTurns Whole
-first-turns-whole = refl
+unfolding firstTurns WholeTurns
+first-turns-whole = blank-whole turns normal
 
-resting-world : (n core : ℕ) → core < n → getD (resting n) (2 * core) 0 ≡ normal
-unfolding resting
-resting-world zero core h = absurd (omega arith)
-resting-world (suc n) zero h = refl
-resting-world (suc n) (suc core) h =
-    let e : 2 * suc core ≡ suc (suc (2 * core)) = omega arith in
-    rw e (resting-world n core (omega arith))
-
-resting-flag : (n core : ℕ) → core < n → getD (resting n) (2 * core + 1) 0 ≡ 0
-unfolding resting
-resting-flag zero core h = absurd (omega arith)
-resting-flag (suc n) zero h = refl
-resting-flag (suc n) (suc core) h =
-    let e : 2 * suc core + 1 ≡ suc (suc (2 * core + 1)) = omega arith in
-    rw e (resting-flag n core (omega arith))
-
-pub first-turn : (core : ℕ) → core < mostCores → turn firstTurns core ≡ turnOf normal false
-unfolding firstTurns
-first-turn core h = sym (turn-in firstTurns core h) ∙ rw (resting-world mostCores core h, resting-flag mostCores core h)
+pub first-turn : (core : ℕ) → core < mostCores → turn firstTurns core ≡ turnOf normal
+unfolding turn firstTurns
+first-turn core h = rw (blank-read turns normal core h)
 
 -- ---- how many are ON
 module _ (t : List ℕ) where

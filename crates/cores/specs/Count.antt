@@ -4,7 +4,6 @@ use mathlib.Core.Bool.{Bool, true, false}
 use Prim.Native.Nat.{ℕ, zero, suc, _+_, _*_, _/_, _%_, _^_, _≤_, _<_}
 use native.Mathlib.Nat.{pow-suc}
 use native.Mathlib.Omega.{arith}
-use lib.Dec.{eqb}
 use lib.Count.{ones, ones-step}
 
 -- a test as a binary digit
@@ -34,12 +33,6 @@ unfolding bit
 bit-no b e = rw e
 
 pub ruleset digits = (bit-yes, bit-no)
-
--- a digit is told by whether it is one
-pub bit-told : (b : Bool) → eqb (bit b) 1 ≡ b
-unfolding bit
-bit-told true = refl
-bit-told false = refl
 
 -- ---- the ones of a mask are counted digit by digit
 ones-digit : (d m : ℕ) → d ≤ 1 → ones (d + 2 * m) ≡ d + ones m

@@ -1,4 +1,4 @@
--- One core's power, and its turn: which world runs there, and whether a hand-over is open. Records by value, with no trace of the tables.
+-- One core's power, and its turn: which world runs there. Records by value, with no trace of the tables.
 use mathlib.Core.Path.{_≡_}
 use mathlib.Core.Bool.{Bool, true, false, _||_}
 use Prim.Native.Nat.{ℕ}
@@ -22,8 +22,8 @@ on = 2
 abbrev pub powerOf : ℕ → ℕ → ℕ → Power
 powerOf state start context = record { state = state; start = start; context = context }
 
-abbrev pub turnOf : ℕ → Bool → Turn
-turnOf world isOpen = record { world = world; is_open = isOpen }
+abbrev pub turnOf : ℕ → Turn
+turnOf world = record { world = world }
 
 -- ---- power
 unfoldable pub isOn : Power → Bool
@@ -55,11 +55,11 @@ arrivalOf p = record { came = isPending p; power = arrived p }
 -- ---- turn
 -- a hand-over: the receiver runs, until the finish
 abbrev pub handed : Turn → ℕ → Turn
-handed r to = turnOf to true
+handed r to = turnOf to
 
 -- a finish: Normal runs
 abbrev pub finished : Turn → Turn
-finished r = turnOf normal false
+finished r = turnOf normal
 
 -- an arrival: Normal runs, as after a finish
 abbrev pub entered : Turn → Turn

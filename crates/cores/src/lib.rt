@@ -110,10 +110,9 @@ pub fn arrival(p: Power) -> Arriving
     }
 }
 
-// Which world runs on a core, and whether a hand-over is open there.
+// Which world runs on a core.
 pub struct Turn {
     pub world: u64,
-    pub is_open: bool,
 }
 
 impl Turn {
@@ -121,20 +120,14 @@ impl Turn {
     pub fn handed(self, to: u64) -> Turn
         ensures { λ r. ⌜ r ≡ handed self to ⌝ }
     {
-        Turn {
-            world: to,
-            is_open: true,
-        }
+        Turn { world: to }
     }
 
     // A finish: Normal runs.
     pub fn finished(self) -> Turn
         ensures { λ r. ⌜ r ≡ finished self ⌝ }
     {
-        Turn {
-            world: NORMAL,
-            is_open: false,
-        }
+        Turn { world: NORMAL }
     }
 
     // An arrival: Normal runs, as after a finish.
@@ -148,8 +141,8 @@ impl Turn {
 // State, start address and context of each of the eight cores.
 pub type Powers = [u64; 3 * MOST_CORES as usize];
 
-// Running world of each of the eight cores, and 1 where a hand-over is open.
-pub type Turns = [u64; 2 * MOST_CORES as usize];
+// Running world of each of the eight cores.
+pub type Turns = [u64; MOST_CORES as usize];
 
 // At the start core 0 is ON and the others are OFF.
 pub fn fresh_powers() -> Powers
@@ -160,12 +153,11 @@ pub fn fresh_powers() -> Powers
     t
 }
 
-// At the start every core is set to run Normal, with no hand-over open.
+// At the start every core is set to run Normal.
 pub fn fresh_turns() -> Turns
     ensures { λ r. ⌜ r ≡ firstTurns ⌝ }
 {
-    let n = NORMAL;
-    [n, 0, n, 0, n, 0, n, 0, n, 0, n, 0, n, 0, n, 0]
+    [NORMAL; MOST_CORES as usize]
 }
 
 // The power of a core, OFF where there is no such core.
@@ -200,20 +192,15 @@ pub fn set_power(t: &mut Powers, core: u64, p: Power)
     t[at + 2] = p.context;
 }
 
-// The turn of a core: no world that calls, and nothing open, where there is no such core.
+// The turn of a core: no world that calls, where there is no such core.
 pub fn turn_of(t: &Turns, core: u64) -> Turn
     ensures { λ r. ⌜ r ≡ turn (now (t .entry)) core ⌝ }
 {
     if MOST_CORES <= core {
-        return Turn {
-            world: ROOT,
-            is_open: false,
-        };
+        return Turn { world: ROOT };
     }
-    let at = 2 * core as usize;
     Turn {
-        world: t[at],
-        is_open: t[at + 1] == 1,
+        world: t[core as usize],
     }
 }
 
@@ -224,13 +211,7 @@ pub fn set_turn(t: &mut Turns, core: u64, r: Turn)
     if MOST_CORES <= core {
         return;
     }
-    let at = 2 * core as usize;
-    t[at] = r.world;
-    if r.is_open {
-        t[at + 1] = 1;
-        return;
-    }
-    t[at + 1] = 0;
+    t[core as usize] = r.world;
 }
 
 // The digit of a core in the mask of those that are ON.

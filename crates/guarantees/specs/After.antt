@@ -3,13 +3,13 @@ use mathlib.Core.Path.{_≡_, refl, sym, _∙_}
 use mathlib.Core.Bool.{true, false}
 use mathlib.Core.List.{List, [], _∷_}
 use mathlib.Core.Option.{none, some}
-use mathlib.Core.Logic.{inl, ⊎-elim}
+use mathlib.Core.Logic.{inl}
 use Prim.Native.Nat.{ℕ, _+_, _-_, _≤_}
 use native.Mathlib.Omega.{arith}
 use lib.Dec.{eqb}
 use borrow.Author.Tests.{eqb-true, eqb-false, ltb-true, ltb-false}
 use lib.Dec.{ltb}
-use Rattle.rules.specs.Sizes.{secure, normal, realm, mostCores}
+use Rattle.rules.specs.Sizes.{mostCores}
 use Rattle.rules.specs.Choice.{pick-yes, pick-no, either, yes-or-no, first-or, not-first, not-second}
 use Rattle.cores.specs.Power.{isOn, isPending}
 use Rattle.cores.specs.Cores.{power, turn, firstPowers, first-power-other, first-turn}
@@ -22,7 +22,7 @@ use Rattle.mapping.specs.Sound.{Sound, sound-none}
 use Rattle.mapping.specs.Once.{coverings, covered-few, one-covers, lead-exact}
 use Rattle.ranges.specs.declared.Mapping.{Mapping}
 use Rattle.mapping.specs.declared.Lead.the-variants.{To}
-use Rattle.judgements.specs.Grounds.{Calls, Takes}
+use Rattle.judgements.specs.Grounds.{Calls}
 use Rattle.calls.specs.Right.{Right}
 use Rattle.setup.specs.Table.{ready, ended, cores}
 use Rattle.calling.specs.Calling.{siteOf}
@@ -95,19 +95,6 @@ module _ (m : Machine) (fit : Fit m) where
       either (eqb core 0) (λ z. rw (e, eqb-true core 0 z, first-turn 0 (omega arith)) (inl refl))
       (λ z. let f = first-power-other core (eqb-false core 0 z) in let g : isOn (power firstPowers core) ≡ true = (rw e at o) in absurd (yes-or-no _ g (rw f))))
 
-  -- Secure and Realm run only while a hand-over is open
-  fit-open : (core : ℕ) → isOn (power (m .powers) core) ≡ true → Takes (turn (m .turns) core .world) → turn (m .turns) core .is_open ≡ true
-  unfolding isOn
-  fit-open core o k =
-      let away : turn (m .turns) core .world ≡ normal → ⊥ = λ n. ⊎-elim (λ (z : turn (m .turns) core .world ≡ secure). omega arith) (λ (z : turn (m .turns) core .world ≡ realm). omega arith) k in
-      by-time
-      (λ e r.
-      either (ltb core mostCores) (λ h. r .running core (ltb-true _ _ h) .away away .0)
-      (λ h. absurd (yes-or-no _ o (fit-absent core e (omega (arith, ltb-false core mostCores h, r .most-cores)) .0))))
-      (λ e.
-      either (eqb core 0) (λ z. absurd (away (rw (e, eqb-true core 0 z, first-turn 0 (omega arith)))))
-      (λ z. let f = first-power-other core (eqb-false core 0 z) in let g : isOn (power firstPowers core) ≡ true = (rw e at o) in absurd (yes-or-no _ g (rw f))))
-
 -- All of it, after any run from a fit machine.
 pub guaranteed-after : (m : Machine) → Fit m → (run : Events) → Guaranteed m run (ran m run) (replies m run)
 guaranteed-after m fit run =
@@ -126,7 +113,6 @@ guaranteed-after m fit run =
       sixteen = λ world. fit-sound last f world .few;
       exact = fit-exact last f;
       runs = fit-runs last f;
-      open-away = fit-open last f;
       absent = fit-absent last f;
       idle = f .idle;
       site-stays = λ e. always (λ (q : Machine). (ready (q .setup) ≡ true) × (siteOf (q .setup) ≡ siteOf (m .setup))) site-next m run (e, refl);

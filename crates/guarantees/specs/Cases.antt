@@ -28,7 +28,7 @@ use Rattle.mapping.specs.Lists.{held, held-some}
 use Rattle.ranges.specs.declared.Mapping.{Mapping}
 use Rattle.transfers.specs.Transfer.{moveTests, transferVerdict}
 use Rattle.rules.specs.Sizes.{secure, normal, realm}
-use Rattle.judgements.specs.Judge.{HandlerSight, denied, granted, oneOf, callers, calledBy, argsOf, rowIn, transferring, byNumber, byRow, byHandler, found, judgedBy, judged, board, wanted, mapping, unmapping, standard, starting, tellingState, goodStart, ownedAt, realmCall, moving}
+use Rattle.judgements.specs.Judge.{HandlerSight, denied, granted, oneOf, callers, calledBy, argsOf, rowIn, transferring, byNumber, byRow, byHandler, found, judgedBy, judged, board, wanted, mapping, unmapping, standard, starting, tellingState, goodStart, ownedAt, moving}
 use Rattle.judgements.specs.declared.Answer.{Answer}
 use Rattle.judgements.specs.declared.Answer.the-variants as Answer
 use Rattle.judgements.specs.declared.Deed.the-variants as Deed

@@ -29,7 +29,7 @@ use Rattle.guarantees.specs.Fit.{Fit, fit-next, first-fit}
 use Rattle.guarantees.specs.Accepted.{right, inside, turns-are}
 use Rattle.guarantees.specs.Statements.{running, HandsOver, GivesBack, SwitchesOff}
 use Rattle.guarantees.specs.Started.{kind, same-or-other}
-use Rattle.guarantees.specs.Steps.{hands-asked, gives-back, gives-back-asked, goes-off, off-asked}
+use Rattle.guarantees.specs.Steps.{hands-asked, gives-back, goes-off, off-asked}
 
 -- ---- what a reader takes to be a hand-over that is still open
 -- An accepted hand-over of a core to a world: the line is a call on the core, it is accepted, in the machine that it meets it

@@ -91,8 +91,6 @@ pub record Guaranteed (m : Machine) (run : Events) (last : Machine) (answers : L
   pub exact : (world x : ℕ) (n : Mapping) → deciding (mapped last world) x ≡ some n → leadOf (mapped last world) x ≡ To (n .phys + (x - n .virt)) (n .attr)
   -- A core that is ON runs Normal, Secure or Realm.
   pub runs : (core : ℕ) → isOn (power (last .powers) core) ≡ true → Calls (turn (last .turns) core .world)
-  -- Where it runs Secure or Realm, a hand-over is open there.
-  pub open-away : (core : ℕ) → isOn (power (last .powers) core) ≡ true → Takes (turn (last .turns) core .world) → turn (last .turns) core .is_open ≡ true
   -- Once set-up has said how many cores there are, no other is ON or pending.
   pub absent : (core : ℕ) → ready (last .setup) ≡ true → cores (last .setup) ≤ core → (isOn (power (last .powers) core) ≡ false) × (isPending (power (last .powers) core) ≡ false)
   -- Before that nothing has happened.
@@ -245,7 +243,7 @@ module _ (m : Machine) (core : ℕ) (xs : List ℕ) where
       pub handed : (to j : ℕ) → HandsOver to → j < 8 → number last core to j ≡ getD xs j 0
       pub handed-rest : (to j : ℕ) → HandsOver to → 8 ≤ j → number last core to j ≡ number m core to j
       pub handed-others : (to w j : ℕ) → HandsOver to → (caller ≡ w → ⊥) → (to ≡ w → ⊥) → number last core w j ≡ number m core w j
-      -- Secure's finish and Realm's are never refused: a hand-over is open where they run.
+      -- Secure's finish and Realm's are never refused.
       pub finish-open : (n : ℕ) → GivesBack → last ≡ denied n → ⊥
       -- After a finish Normal runs; its x0 and on are the finisher's x1 and on, as many as that world returns, its other numbers stay, and so do a third world's.
       pub finished-runs : GivesBack → running last core ≡ normal

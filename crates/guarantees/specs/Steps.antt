@@ -108,7 +108,7 @@ module _ (m : Machine) (fit : Fit m) (e : Event) (core : ℕ) (is : e .0 ≡ Fra
       (Effects.hands s core xs to d .0, partly r (λ h k. k .0))
 
   pub gives-back : GivesBack m core xs → deed ≡ Finish
-  gives-back a = asked-finish (sight s core) xs (may m fit e core is t) (right m fit e core is t .running core (inside m fit e core is t) .away (finisher (a .so)) .0) a
+  gives-back a = asked-finish (sight s core) xs (may m fit e core is t) a
 
   pub gives-back-asked : deed ≡ Finish → GivesBack m core xs
   gives-back-asked d =

@@ -146,10 +146,10 @@ module _ (s : HandlerSight) (a : Args) where
         e,
       )
 
-  finishes-done : (h k w : ℕ) → s .caller .world ≡ w → s .caller .is_open ≡ true → Finishes h k w → byHandler s a k h .deed ≡ Finish
+  finishes-done : (h k w : ℕ) → s .caller .world ≡ w → Finishes h k w → byHandler s a k h .deed ≡ Finish
   unfolding rowIn byRow byNumber standard realmCall trusted finishing sieve pick
-  finishes-done h k w e o by-secure = rw (e, o)
-  finishes-done h k w e o by-realm = rw (e, o)
+  finishes-done h k w e by-secure = rw e
+  finishes-done h k w e by-realm = rw e
 
 -- ---- the whole judgement
 module _ (s : Sight) (xs : List ℕ) where
@@ -197,6 +197,6 @@ module _ (s : Sight) (xs : List ℕ) where
     pub asked-hand-over : (to : ℕ) → s .inner .caller .world ≡ normal → Reached s xs (λ h. HandsTo h (key xs) to) → judged s xs .deed ≡ HandOver to
     asked-hand-over to e r = ap (λ (j : Judged). j .deed) (found-at r) ∙ hands-done (s .inner) args (r .number) (key xs) to e (r .so)
 
-    -- and so is a finish while a hand-over is open.
-    pub asked-finish : s .inner .caller .is_open ≡ true → Reached s xs (λ h. Finishes h (key xs) (s .inner .caller .world)) → judged s xs .deed ≡ Finish
-    asked-finish o r = ap (λ (j : Judged). j .deed) (found-at r) ∙ finishes-done (s .inner) args (r .number) (key xs) (s .inner .caller .world) refl o (r .so)
+    -- and so is a finish.
+    pub asked-finish : Reached s xs (λ h. Finishes h (key xs) (s .inner .caller .world)) → judged s xs .deed ≡ Finish
+    asked-finish r = ap (λ (j : Judged). j .deed) (found-at r) ∙ finishes-done (s .inner) args (r .number) (key xs) (s .inner .caller .world) refl (r .so)

@@ -1,7 +1,6 @@
 -- A granule call is the several-page call with a count of one: for Realm the two are judged alike. And the table of transfers in plain numbers.
 use mathlib.Core.Path.{_≡_, refl}
 use mathlib.Core.Bool.{true, false}
-use Prim.Native.Nat.{ℕ}
 use Rattle.rules.specs.Choice.{pick}
 use Rattle.rules.specs.Sizes.{realm}
 use Rattle.judgements.specs.Names.{granuleToRealm, granuleToNormal, takePages, givePages}

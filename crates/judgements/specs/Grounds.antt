@@ -89,7 +89,7 @@ Grounds s (Unmap virt size) = Unmaps s virt size
 Grounds s (Start core start context) = Starts s core start
 Grounds s GoOff = s .caller .world ≡ normal
 Grounds s (HandOver to) = (s .caller .world ≡ normal) × Takes to
-Grounds s Finish = Takes (s .caller .world) × (s .caller .is_open ≡ true)
+Grounds s Finish = Takes (s .caller .world)
 
 -- a refusal does nothing, and what is done has its grounds
 pub record Grounded (s : HandlerSight) (j : Judged) : Type 0 where
@@ -214,8 +214,7 @@ module _ (s : HandlerSight) (a : Args) where
 
   finishes : (from : ℕ) → Takes from → Grounded s (finishing from (s .caller))
   unfolding finishing Clear
-  finishes from t =
-      testing s _ _ (λ c. passing s Finish (subst (λ (w : ℕ). Takes w) (sym (is-world (s .caller .world) from (c .0))) t, not-false _ (c .1 .0)))
+  finishes from t = testing s _ _ (λ c. passing s Finish (subst (λ (w : ℕ). Takes w) (sym (is-world (s .caller .world) from (c .0))) t))
 
   range : (key : ℕ) → Grounded s (handingToRealm (s .caller) key)
   unfolding handingToRealm

@@ -245,7 +245,7 @@ unfoldable pub handing : ℕ → Caller → Judged
 handing to v = tested (onlyFrom normal v ∷ []) (granted Answer.Silent (Deed.HandOver to))
 
 unfoldable pub finishing : ℕ → Caller → Judged
-finishing from v = tested (onlyFrom from v ∷ refuses (not (v .is_open)) Reason.NotOpen ∷ []) (granted Answer.Silent Deed.Finish)
+finishing from v = tested (onlyFrom from v ∷ []) (granted Answer.Silent Deed.Finish)
 
 -- ---- handler 2: standard calls
 -- Realm's range of hand-over

@@ -57,8 +57,6 @@ pub struct Judged {
 // Who calls, and from where.
 pub struct Caller {
     pub world: u64,
-    // whether a hand-over is open on the core
-    pub is_open: bool,
     pub cores: u64,
     pub window: Window,
 }

@@ -12,21 +12,12 @@ returns : tie.Need-returns
 unfolding finishing
 returns c = search contraries depth 20
 
-refuse-requires-2 : tie.Need-refuse-requires-2
-refuse-requires-2 c κs = search needs
+grant-requires : tie.Need-grant-requires
+grant-requires c κs = search needs
 
 returns-2 : tie.Need-returns-2
 unfolding finishing
 returns-2 c = search contraries depth 20
 
-grant-requires : tie.Need-grant-requires
-grant-requires c κs = search needs
-
-returns-3 : tie.Need-returns-3
-unfolding finishing
-returns-3 c = search contraries depth 20
-
 pub finish-spec : {M : Type 1} → statement M
-finish-spec =
-    tie.close
-    (tie.spec refuse-requires returns refuse-requires-2 returns-2 grant-requires returns-3)
+finish-spec = tie.close (tie.spec refuse-requires returns grant-requires returns-2)
