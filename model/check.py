@@ -31,7 +31,6 @@ class Core:
     def __init__(self, power):
         self.power = power
         self.world = NORMAL
-        self.open = False
         self.start = None
         self.numbers = {world: [0] * 9 for world in range(4)}
 
@@ -189,13 +188,12 @@ class Machine:
 
     def hand_over(self, core, receiver):
         core.numbers[receiver][:8] = core.now()[:8]
-        core.world, core.open = receiver, True
+        core.world = receiver
         return []
 
     def finish(self, core, *_):
-        expect(core.open, Refusal(-3))
         core.numbers[NORMAL][:4] = core.now()[1:5]
-        core.world, core.open = NORMAL, False
+        core.world = NORMAL
         return []
 
     # Feature questions.

@@ -30,7 +30,6 @@ enum power { OFF, ON, PENDING };
 struct core {
     enum power power;
     enum world running;
-    bool handed_over;  // a hand-over waits for its finish
     uint64_t address;  // kept from the start call until the arrival
     uint64_t context;
 };
@@ -228,18 +227,14 @@ static int64_t hand_over(unsigned number, enum world to)
 {
     memcpy(saved[number][to], saved[number][NORMAL], ARGUMENTS * sizeof(uint64_t));
     core_table[number].running = to;
-    core_table[number].handed_over = true;
     return UNWRITTEN;
 }
 
 static int64_t finish(unsigned number)
 {
     struct core *core = &core_table[number];
-    if (!core->handed_over)
-        return -3;
     memcpy(saved[number][NORMAL], &saved[number][core->running][1], 4 * sizeof(uint64_t));
     core->running = NORMAL;
-    core->handed_over = false;
     return UNWRITTEN;
 }
 

@@ -1,4 +1,4 @@
-"""The cases without a mark under 'Either side of each rule', then each of the easy errors."""
+"""The cases without a mark under 'Either side of each rule', then each of the easy errors, then those of Q-2 and Q-3."""
 
 from script import JUNK, P, TOP, Script
 
@@ -26,6 +26,7 @@ def edges():
     sums(s)
     mappings_at_transfer(s)
     one_operation(s)
+    finishes(s)
     last_core(s)
     return s
 
@@ -181,6 +182,32 @@ def one_operation(s):
     s.call("S0", -3, 0xC2000010, B + 10 * P, 2)
     s.call("S0", -6, 0xC2000010, B + 10 * P, 1)
     s.call("S0", "N", 0xF2000000)
+
+
+def finishes(s):
+    s.part(
+        "hand-overs on two cores interleave, and each finish ends its own core's; a finish after a finish is -1, from Normal;"
+        " F2000000 by Realm and C400018F by Secure are -1; a core that went OFF and has arrived again runs Normal, and a finish on it is -1"
+    )
+    s.call("N0", "S", 0xF2000001, 1, 2, 3)
+    s.call("N1", "R", 0xC4000150, 4, 5, 6)
+    s.call("R1", -1, 0xF2000000)
+    s.call("S0", -1, 0xC400018F)
+    s.call("S0", "N", 0xF2000000, 7, 8, 9, 10)
+    s.call("N0", -1, 0xF2000000)
+    s.call("N0", -1, 0xC400018F)
+    s.call("N0", "R", 0xC400018E, 11, 12, 13)
+    s.call("R1", "N", 0xC400018F, 14, 15, 16, 17)
+    s.call("N1", -1, 0xC400018F)
+    s.call("N1", "S", 0x42000030, 18, 19, 20)
+    s.call("R0", "N", 0xC400018F, 21, 22, 23, 24)
+    s.call("S1", "N", 0xF2000000, 25, 26, 27, 28)
+    s.call("N1", -1, 0xF2000000)
+    s.call("N1", "off", 0x84000002)
+    s.call("N0", 0, 0xC4000003, 1, B + P, 7)
+    s.arrive(0, 1)
+    s.call("N1", -1, 0xF2000000)
+    s.call("N1", -1, 0xC400018F)
 
 
 def last_core(s):
