@@ -129,6 +129,10 @@ module _ (t : List ℕ) (c w : ℕ) (s : Start) (f : s ≡ startOf c w) where
     unfolding partAt
     part-there = let n : a + each - a ≡ each = omega arith in rw (← f, g, n)
 
+    pub number-at : (r i : ℕ) → r ≡ numberIn (take (a + each - a) (drop a t)) i → r ≡ saved t c w i
+    unfolding saved
+    number-at r i h = rw (← part-there) h
+
     pub shown-there : (r : Shown) → r ≡ shownIn (take (a + each - a) (drop a t)) → r ≡ shownOf t c w
     unfolding shownIn shownOf saved
     shown-there r h = rw (← part-there) h
@@ -138,7 +142,7 @@ module _ (t : List ℕ) (c w : ℕ) (s : Start) (f : s ≡ startOf c w) where
     left-all xs = let z : a + 0 ≡ a = omega arith in rw (← f, g, z)
 
   module _ (g : s ≡ Nowhere) where
-    saved-nowhere : (i : ℕ) → 0 ≡ saved t c w i
+    pub saved-nowhere : (i : ℕ) → 0 ≡ saved t c w i
     unfolding saved partAt numberIn
     saved-nowhere i = rw (← f, g)
 
@@ -150,7 +154,7 @@ module _ (t : List ℕ) (c w : ℕ) (s : Start) (f : s ≡ startOf c w) where
     unfolding saving savingAt
     saving-nowhere xs = rw (← f, g)
 
-pub ruleset reading = (shown-there, shown-nowhere)
+pub ruleset reading = (shown-there, shown-nowhere, number-at, saved-nowhere)
 
 module _ (n : ℕ) where
   pub count-few : n < each → n ≡ countOf n

@@ -2,7 +2,7 @@
 // Where there is no such core, world or number, reading gives 0 and writing changes nothing.
 ghost use mathlib.Core.Path.{_≡_};
 ghost use mathlib.Core.List.{[], _∷_};
-ghost use Rattle.registers.specs.Registers.{startOf, countOf, numberIn, shownIn, zeros, shownOf, saving};
+ghost use Rattle.registers.specs.Registers.{startOf, countOf, numberIn, shownIn, zeros, saved, shownOf, saving};
 use rules::MOST_CORES;
 use rules::WORLDS;
 
@@ -84,6 +84,18 @@ pub fn show(t: &Saved, core: u64, world: u64) -> Shown
     let s: &[u64] = t;
     let e = a + EACH;
     shown_in(&s[a..e])
+}
+
+// Number i of one core and world: x0 to x7, and in ninth place where the core started.
+pub fn number(t: &Saved, core: u64, world: u64, i: u64) -> u64
+    ensures { λ r. ⌜ r ≡ saved (now (t .entry)) core world i ⌝ }
+{
+    let Start::At(a) = start_of(core, world) else {
+        return 0;
+    };
+    let s: &[u64] = t;
+    let e = a + EACH;
+    number_in(&s[a..e], i)
 }
 
 // How many of n numbers are written: nine at most.
