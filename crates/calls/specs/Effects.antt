@@ -30,7 +30,9 @@ use Rattle.rules.specs.Reasons.{minus}
 use Rattle.answers.specs.Answers.{negative, written}
 use Rattle.answers.specs.Laws.{answered-whole, answered-other, answered-listed, answered-unlisted, answered-past}
 pub use Rattle.deeds.specs.Deeds.{returned}
+pub use Rattle.deeds.specs.Laws.{returned-realm, returned-other}
 use Rattle.deeds.specs.Deeds.{finishNumbers}
+use Rattle.deeds.specs.Laws.{returned-few}
 use Rattle.calls.specs.Step.{State, state, sight, callerOf, judgedIn, carriedIn, withAnswer, applied, called, CoreTables, startNumbers, arrivedIn, arrives}
 
 -- ---- names for a step
@@ -161,6 +163,7 @@ module _ (s : State) (core : ℕ) (xs : List ℕ) where
     -- A finish gives Normal the finisher's x1 and on as its x0 and on.
     pub finished-numbers : (j : ℕ) → Whole (s .saved) → core < mostCores → length xs ≡ 8 → j < returned (callerOf s core) → saved (after s core xs .saved) core normal j ≡ getD xs (1 + j) 0
     finished-numbers j w h l k =
+        let f = returned-few _ (callerOf s core) refl in
         let n : length (finishNumbers (callerOf s core) xs) ≡ returned (callerOf s core) = simp (length-take, length-drop) (omega arith) in
         rw (saved-is, e) (saving-at (answeredAt s core xs .saved) core normal (finishNumbers (callerOf s core) xs) j
         (answered-whole (s .saved) core (callerOf s core) xs (answerIn s core xs) w) h (omega arith) (omega arith) (omega arith)

@@ -1,13 +1,15 @@
 -- What each deed does: the tables that calls change, before and after.
 use mathlib.Core.List.{List}
 use Prim.Native.Nat.{ℕ}
+use lib.Dec.{eqb}
 use lib.ListN.{take, drop}
+use Rattle.rules.specs.Choice.{pick}
 use Rattle.registers.specs.Registers.{saving}
 use Rattle.cores.specs.Power.{started, goneOff, handed, finished}
 use Rattle.cores.specs.Cores.{power, withPower, turn, withTurn}
 use Rattle.pages.specs.Owners.{given}
 use Rattle.mapping.specs.Lists.{holding, released}
-use Rattle.rules.specs.Sizes.{normal}
+use Rattle.rules.specs.Sizes.{normal, realm}
 use Rattle.judgements.specs.declared.Deed.{Deed}
 use Rattle.judgements.specs.declared.Deed.the-variants.{Nothing, Move, Map, Unmap, Start, GoOff, HandOver, Finish}
 
@@ -51,9 +53,9 @@ handedIn t core to = withTurn t core (handed (turn t core) to)
 abbrev pub finishedIn : List ℕ → ℕ → List ℕ
 finishedIn t core = withTurn t core (finished (turn t core))
 
--- how many numbers a finish by this world returns to Normal: four, whichever it is
-abbrev pub returned : ℕ → ℕ
-returned world = 4
+-- how many numbers a finish by this world returns to Normal: Realm five, Secure four
+unfoldable pub returned : ℕ → ℕ
+returned world = pick (eqb world realm) 5 4
 
 -- what a finish gives Normal: the finisher's numbers from x1 on, as many as it returns
 abbrev pub finishNumbers : ℕ → List ℕ → List ℕ

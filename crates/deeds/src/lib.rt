@@ -2,13 +2,18 @@
 ghost use mathlib.Core.Path.{_≡_};
 ghost use Rattle.registers.specs.Registers.{saving};
 ghost use Rattle.rules.specs.Sizes.{normal};
-ghost use Rattle.deeds.specs.Deeds.{tables, startedIn, goneOffIn, handedIn, finishedIn, finishNumbers, carriedOut};
+ghost use Rattle.deeds.specs.Deeds.{tables, startedIn, goneOffIn, handedIn, finishedIn, returned, finishNumbers, carriedOut};
 use cores::Powers;
 use cores::Turns;
 use judgements::Deed;
 use mapping::Lists;
 use pages::Owners;
 use registers::Saved;
+
+// How many numbers Realm's finish returns, and Secure's.
+const FROM_REALM: usize = 5;
+
+const FROM_SECURE: usize = 4;
 
 // The target becomes pending, with the address and the context that it is to find.
 fn start(t: &mut Powers, target: u64, address: u64, context: u64)
@@ -42,12 +47,23 @@ fn finish(t: &mut Turns, core: u64)
     cores::set_turn(t, core, was.finished());
 }
 
-// Normal gets the finisher's x1 to x4 as its x0 to x3.
+// How many a finish returns to Normal, by the world that finishes.
+fn returned(world: u64) -> usize
+    ensures { λ r. ⌜ r ≡ returned world ⌝ }
+{
+    if world == rules::REALM {
+        return FROM_REALM;
+    }
+    FROM_SECURE
+}
+
+// Normal gets the finisher's numbers from x1 on as its own from x0 on.
 fn give_back(t: &mut Saved, core: u64, caller: u64, x: &[u64; 8])
     ensures { λ _. ⌜ now (t .exit) ≡ saving (now (t .entry)) core normal (finishNumbers caller (now (x .entry))) ⌝ }
 {
     let s: &[u64] = x;
-    registers::save(t, core, rules::NORMAL, &s[1..5]);
+    let end = 1 + returned(caller);
+    registers::save(t, core, rules::NORMAL, &s[1..end]);
 }
 
 // Carries a deed out for the world that called, with its eight numbers.

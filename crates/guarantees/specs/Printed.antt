@@ -34,7 +34,7 @@ use Rattle.judgements.specs.declared.Deed.{Deed}
 use Rattle.judgements.specs.declared.Deed.the-variants.{Nothing, Move, Map, Unmap, Start, GoOff, HandOver, Finish}
 use Rattle.answers.specs.Laws.{written-fits}
 use Rattle.calls.specs.Step.{sight, callerOf, judgedIn}
-use Rattle.calls.specs.Effects.{deedIn, answerIn, resultsIn, returned}
+use Rattle.calls.specs.Effects.{deedIn, answerIn, resultsIn}
 use Rattle.calls.specs.Left.{power-started, power-off, power-spared}
 use Rattle.hex.specs.Hex.{signOf, valueOf, value, numbers, inHex, sign-low, sign-high, digit-low, digit-high, length-hex}
 use Rattle.hex.specs.Read.{value-small}
@@ -51,7 +51,7 @@ use Rattle.guarantees.specs.Runs.{Event, byte, next, reply, Taken, repli
 use Rattle.guarantees.specs.Fit.{Fit, fit-next, first-fit}
 use Rattle.guarantees.specs.Accepted.{performs, right, inside, may, powers-are}
 use Rattle.guarantees.specs.Started.{kind, power-cases, same-or-other}
-use Rattle.guarantees.specs.Statements.{running, HeededCall, HeededArrival, HeededOther}
+use Rattle.guarantees.specs.Statements.{running, GivesBack, HeededCall, HeededArrival, HeededOther}
 use Rattle.guarantees.specs.After.{fit-runs}
 use Rattle.guarantees.specs.Steps.{heeded, hands, hands-asked, gives-back, gives-back-asked}
 
@@ -224,6 +224,16 @@ module _ (m : Machine) (fit : Fit m) (e : Event) (narrow : Narrow m) (small : Sm
       (λ z. same-or-other j 8 (λ q. rw (q, found .start-stays) (narrow .numbers core (running m core) 8))
       (λ q. rw (saved-no-number (next m e .saved) core (running m core) j (omega (arith, ltb-false j 8 z))) (omega arith))))
 
+  -- Normal's, after a finish
+  returned-narrow : GivesBack m core (e .1) → (j : ℕ) → saved (next m e .saved) core normal j < 2 ^ 64
+  returned-narrow a j =
+      ⊎-elim
+      (λ (y : running m core ≡ secure).
+      either (ltb j 4) (λ z. rw (found .finished-secure j a y (ltb-true j 4 z)) (small .numbers (1 + j))) (λ z. rw (found .rest-secure j a y (ltb-false j 4 z)) (narrow .numbers core normal j)))
+      (λ (y : running m core ≡ realm).
+      either (ltb j 5) (λ z. rw (found .finished-realm j a y (ltb-true j 5 z)) (small .numbers (1 + j))) (λ z. rw (found .rest-realm j a y (ltb-false j 5 z)) (narrow .numbers core normal j)))
+      (found .finished-by a)
+
   -- another world's
   other-narrow : (w j : ℕ) → (running m core ≡ w → ⊥) → saved (next m e .saved) core w j < 2 ^ 64
   other-narrow w j n =
@@ -233,9 +243,8 @@ module _ (m : Machine) (fit : Fit m) (e : Event) (narrow : Narrow m) (small : Sm
       (λ q. rw (← q) (either (ltb j 8) (λ y. rw (found .handed to j a (ltb-true j 8 y)) (small .numbers j)) (λ y. rw (found .handed-rest to j a (ltb-false j 8 y)) (narrow .numbers core to j))))
       (λ q. rw (found .handed-others to w j a n q) (narrow .numbers core w j)))
       (λ d. let a = gives-back-asked m fit e core is t d in
-      let k = returned (running m core) in
       same-or-other normal w
-      (λ q. rw (← q) (either (ltb j k) (λ y. rw (found .finished j a (ltb-true j k y)) (small .numbers (1 + j))) (λ y. rw (found .finished-rest j a (ltb-false j k y)) (narrow .numbers core normal j))))
+      (λ q. rw (← q) (returned-narrow a j))
       (λ q. rw (found .finished-others w j a n q) (narrow .numbers core w j)))
       (λ h f. rw (found .other-worlds w j n (λ to a. h to (hands m fit e core is t to a)) (λ a. f (gives-back m fit e core is t a))) (narrow .numbers core w j))
 

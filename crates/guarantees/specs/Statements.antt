@@ -2,6 +2,7 @@
 use mathlib.Core.Path.{_≡_}
 use mathlib.Core.Bool.{true, false}
 use mathlib.Core.List.{List, [], _∷_, _++_}
+use mathlib.Core.Logic.{_⊎_}
 use mathlib.Core.Option.{some}
 use Prim.Native.Nat.{ℕ, zero, suc, _+_, _-_, _%_, _≤_, _<_}
 use lib.Dec.{eqb}
@@ -33,7 +34,7 @@ use Rattle.judgements.specs.declared.Answer.the-variants.{No}
 use Rattle.rules.specs.Reasons.{minus}
 use Rattle.answers.specs.Answers.{negative}
 use Rattle.calls.specs.Step.{sight, judgedIn}
-use Rattle.calls.specs.Effects.{answerIn, resultsIn, returned}
+use Rattle.calls.specs.Effects.{answerIn, resultsIn}
 use Rattle.parsing.specs.declared.Status.{Status}
 use Rattle.parsing.specs.declared.Status.the-variants.{Accepted}
 use Rattle.parsing.specs.declared.Frame.{Frame}
@@ -245,10 +246,14 @@ module _ (m : Machine) (core : ℕ) (xs : List ℕ) where
       pub handed-others : (to w j : ℕ) → HandsOver to → (caller ≡ w → ⊥) → (to ≡ w → ⊥) → number last core w j ≡ number m core w j
       -- Secure's finish and Realm's are never refused.
       pub finish-open : (n : ℕ) → GivesBack → last ≡ denied n → ⊥
-      -- After a finish Normal runs; its x0 and on are the finisher's x1 and on, as many as that world returns, its other numbers stay, and so do a third world's.
+      -- After a finish, which is Secure's or Realm's, Normal runs.
+      pub finished-by : GivesBack → (caller ≡ 1) ⊎ (caller ≡ 3)
       pub finished-runs : GivesBack → running last core ≡ normal
-      pub finished : (j : ℕ) → GivesBack → j < returned caller → number last core normal j ≡ getD xs (1 + j) 0
-      pub finished-rest : (j : ℕ) → GivesBack → returned caller ≤ j → number last core normal j ≡ number m core normal j
+      -- Its x0 to x3 are Secure's x1 to x4 where Secure finished, its x0 to x4 Realm's x1 to x5 where Realm did; its other numbers stay, and so do a third world's.
+      pub finished-secure : (j : ℕ) → GivesBack → caller ≡ 1 → j < 4 → number last core normal j ≡ getD xs (1 + j) 0
+      pub rest-secure : (j : ℕ) → GivesBack → caller ≡ 1 → 4 ≤ j → number last core normal j ≡ number m core normal j
+      pub finished-realm : (j : ℕ) → GivesBack → caller ≡ 3 → j < 5 → number last core normal j ≡ getD xs (1 + j) 0
+      pub rest-realm : (j : ℕ) → GivesBack → caller ≡ 3 → 5 ≤ j → number last core normal j ≡ number m core normal j
       pub finished-others : (w j : ℕ) → GivesBack → (caller ≡ w → ⊥) → (normal ≡ w → ⊥) → number last core w j ≡ number m core w j
       -- ---- what is done, by what was asked and is answered
       -- A transfer that is answered 0 gives the taker its whole run.

@@ -20,7 +20,7 @@ use Rattle.cores.specs.Cores.{power}
 use Rattle.ranges.specs.declared.Mapping.{Mapping}
 use Rattle.mapping.specs.Lists.{held}
 use Rattle.mapping.specs.Sound.{granted-formed}
-use Rattle.rules.specs.Sizes.{normal, mostCores}
+use Rattle.rules.specs.Sizes.{secure, normal, mostCores}
 use Rattle.judgements.specs.Judge.{calledBy, argsOf, found, wanted}
 use Rattle.judgements.specs.Asked.{Finishes, by-secure, by-realm, called-for, leads-asked, judged-reserved}
 use Rattle.judgements.specs.Decided.{asked-map, asked-unmap, asked-start, asked-off, asked-hand-over, asked-finish, asked-where, asked-count}
@@ -31,7 +31,7 @@ use Rattle.judgements.specs.declared.Deed.the-variants.{Nothing, Move, Map, Unm
 use Rattle.judgements.specs.declared.Judged.{Judged}
 use Rattle.calls.specs.Step.{State, sight, callerOf, startNumbers, arrivedIn}
 use Rattle.calls.specs.Effects as Effects
-use Rattle.calls.specs.Effects.{deedIn, answerIn, Receives, Carries}
+use Rattle.calls.specs.Effects.{deedIn, answerIn, Receives, Carries, returned, returned-realm, returned-other}
 use Rattle.calls.specs.Left as Left
 use Rattle.parsing.specs.declared.Status.the-variants.{Accepted}
 use Rattle.parsing.specs.declared.Frame.{Frame}
@@ -162,6 +162,10 @@ module _ (m : Machine) (fit : Fit m) (e : Event) (core : ℕ) (is : e .0 ≡ Fra
   back-runs a =
       rw (turns-are m fit e core is t, running) (Left.finished-runs s core xs (gives-back a) (right m fit e core is t .whole .turns-whole) (inside m fit e core is t))
 
+  -- Secure returns four numbers
+  four : callerOf s core ≡ secure → returned (callerOf s core) ≡ 4
+  four y = returned-other (callerOf s core) (λ z. omega arith)
+
   -- a mapping that is made has some size
   some-size : (n : Mapping) → deed ≡ Map n → n .size ≡ 0 → ⊥
   some-size n d z =
@@ -212,8 +216,11 @@ module _ (m : Machine) (fit : Fit m) (e : Event) (core : ℕ) (is : e .0 ≡ Fra
         handed-others = λ to w j a n k. spares core w j (λ q. n) (λ q (u : Receives deed w). k (rw (hands to a) at u));
         finish-open = λ n a k. finisher (a .so) (sym (ap (λ (q : Machine). running q core) k) ∙ back-runs a);
         finished-runs = back-runs;
-        finished = λ j a h. rw numbers (Effects.finished-numbers s core xs (gives-back a) j whole i l h);
-        finished-rest = λ j a h. rw numbers (Effects.finished-rest s core xs (gives-back a) j h);
+        finished-by = λ a. Effects.finishes s core xs (gives-back a);
+        finished-secure = λ j a y h. rw numbers (Effects.finished-numbers s core xs (gives-back a) j whole i l (omega (arith, four y)));
+        rest-secure = λ j a y h. rw numbers (Effects.finished-rest s core xs (gives-back a) j (omega (arith, four y)));
+        finished-realm = λ j a y h. rw numbers (Effects.finished-numbers s core xs (gives-back a) j whole i l (omega (arith, returned-realm _ y)));
+        rest-realm = λ j a y h. rw numbers (Effects.finished-rest s core xs (gives-back a) j (omega (arith, returned-realm _ y)));
         finished-others = λ w j a n k. spares core w j (λ q. n) (λ q (u : Receives deed w). k (rw (gives-back a) at u));
         move-done = λ start count to a z.
             let g = transfer-moves m fit e core is t start count to a z in
