@@ -230,10 +230,12 @@ static int64_t hand_over(unsigned number, enum world to)
     return UNWRITTEN;
 }
 
+// Realm returns five numbers, Secure four.
 static int64_t finish(unsigned number)
 {
     struct core *core = &core_table[number];
-    memcpy(saved[number][NORMAL], &saved[number][core->running][1], 4 * sizeof(uint64_t));
+    unsigned returned = core->running == REALM ? 5 : 4;
+    memcpy(saved[number][NORMAL], &saved[number][core->running][1], returned * sizeof(uint64_t));
     core->running = NORMAL;
     return UNWRITTEN;
 }

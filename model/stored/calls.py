@@ -35,10 +35,10 @@ def calls():
         s.call("S0", "N", 0xF2000000, 4, JUNK, TOP - 1, 7)
     s.call("N0", "S", 0xF2000001)
     secure(s)
-    s.part("hand-over to Realm at both ends of the range; finish with x1 to x4, which may look like a refusal")
+    s.part("hand-over to Realm at both ends of the range; finish with x1 to x5, of which four are shown and may look like a refusal")
     for identifier in (0xC4000150, JUNK + 0xC400016F, 0xC400018E):
         s.call("N0", "R", identifier, TOP - 1, JUNK, 3)
-        s.call("R0", "N", 0xC400018F, TOP - 1, 5, JUNK, 7)
+        s.call("R0", "N", 0xC400018F, TOP - 1, 5, JUNK, 7, 9)
     s.call("N0", "R", 0xC4000150)
     realm(s)
     two_cores(s)
