@@ -19,6 +19,11 @@ class Refusal(Exception):
     """A call that is refused, with its negative answer."""
 
 
+def without_hint(identifier):
+    """An identifier as it is compared: in a fast one bit 16 is a hint."""
+    return identifier & ~(1 << 16) if identifier >> 31 else identifier
+
+
 def expect(holds, refusal):
     """One rule in an ordered list of rules."""
     if not holds:
@@ -136,8 +141,9 @@ class Machine:
     def judge(self, core, caller, x):
         identifier = x[0] % 2**32
         fast, wide = identifier >> 31, identifier >> 30 & 1
-        owner, middle = identifier >> 24 & 63, identifier >> 16 & 255
-        expect(not (fast and middle), Refusal(-1))
+        owner, reserved = identifier >> 24 & 63, identifier >> 17 & 127
+        expect(not (fast and reserved), Refusal(-1))
+        identifier = without_hint(identifier)
         handler = self.ledger.get((fast, owner))
         expect(handler is not None, Refusal(-1))
         if handler == 3:
@@ -150,7 +156,7 @@ class Machine:
     def known(self, handler, identifier):
         """Who may make the call and what it does, if the handler knows it."""
         architecture = {
-            0x80000000: (ANY, lambda *_: [0x10002]),
+            0x80000000: (ANY, lambda *_: [0x10003]),
             0x80000001: (ANY, self.architecture_features),
         }
         board = {
@@ -200,11 +206,12 @@ class Machine:
     # Feature questions.
 
     def architecture_features(self, core, caller, x1, *_):
-        return [0 if x1 in (0x80000000, 0x80000001) else -1]
+        return [0 if without_hint(x1 % 2**32) in (0x80000000, 0x80000001) else -1]
 
     def power_features(self, core, caller, x1, *_):
         power = (0x84000000, 0x84000002, 0x84000003, 0xC4000003, 0x84000004, 0xC4000004, 0x8400000A)
-        return [0 if x1 in power or x1 == 0x80000000 else -1]
+        asked = without_hint(x1 % 2**32)
+        return [0 if asked in power or asked == 0x80000000 else -1]
 
     # Cores.
 

@@ -242,13 +242,19 @@ static int64_t finish(unsigned number)
 
 // ---- handlers: the whole identifier, the caller's world, then the arguments ----
 
+// Bit 16 of a fast identifier is a hint, which no comparison looks at.
+static uint32_t unhinted(uint32_t id)
+{
+    return id >> 31 ? id & ~UINT32_C(0x10000) : id;
+}
+
 static int64_t architecture(uint32_t id, const uint64_t *x)
 {
     switch (id) {
     case 0x80000000:
-        return 0x10002;
+        return 0x10003;
     case 0x80000001:
-        return (uint32_t)x[1] == 0x80000000 || (uint32_t)x[1] == 0x80000001 ? 0 : -1;
+        return unhinted((uint32_t)x[1]) == 0x80000000 || unhinted((uint32_t)x[1]) == 0x80000001 ? 0 : -1;
     default:
         return -1;
     }
@@ -294,7 +300,7 @@ static int64_t core_power(unsigned number, uint32_t id, const uint64_t *x)
     case 0xc4000004:
         return core_state(x[1], x[2]);
     case 0x8400000a:
-        switch ((uint32_t)x[1]) {
+        switch (unhinted((uint32_t)x[1])) {
         case 0x80000000:
         case 0x84000000:
         case 0x84000002:
@@ -341,11 +347,11 @@ static int64_t trusted(unsigned number, enum world caller, uint32_t id)
     return -1;
 }
 
-// The handler that the ledger names; nobody where a fast call has a bit of 23 to 16 set.
+// The handler that the ledger names; nobody where a fast call has a bit of 23 to 17 set.
 static enum handler look_up(uint32_t id)
 {
     bool fast = id >> 31;
-    if (fast && (id & 0x00ff0000) != 0)
+    if (fast && (id & 0x00fe0000) != 0)
         return NOBODY;
     return ledger[fast][id >> 24 & 0x3f];
 }
@@ -355,7 +361,7 @@ static void call(unsigned number)
 {
     enum world caller = core_table[number].running;
     uint64_t *x = saved[number][caller];
-    uint32_t id = (uint32_t)x[0];
+    uint32_t id = unhinted((uint32_t)x[0]);
     int64_t result = -1;
     switch (look_up(id)) {
     case ARCHITECTURE:

@@ -324,15 +324,19 @@ class Run:
         rng = self.rng
         pairs = [pair for pair, entry in self.machine.ledger.items() if entry == handler]
         fast, owner = rng.choice(pairs) if pairs else (1, 50)
-        middle = 0 if fast and not self.chance(0.05) else rng.choice([0, 1, 0x80, 0xFF])
+        middle = rng.choice([0, 1]) if fast and not self.chance(0.05) else rng.choice([0, 1, 2, 0x80, 0xFF])
         number = rng.choice([0, 1, 0x150, 0x18E, 0x18F, rng.getrandbits(16)])
         return fast << 31 | rng.getrandbits(1) << 30 | owner << 24 | middle << 16 | number
 
     def odd_identifier(self):
         """A known identifier with a bit or two turned, or any number."""
         rng, known = self.rng, self.rng.choice(KNOWN)
-        return rng.choice([known ^ 1 << rng.choice([31, 30, 29, 24, 23, 16, 4, 0]), known | 0xFF0000, known & 2**31 - 1,
+        return rng.choice([known ^ 1 << rng.choice([31, 30, 29, 24, 23, 17, 16, 4, 0]), known | 0xFF0000, known & 2**31 - 1,
                            rng.getrandbits(32), self.ledger_identifier(rng.randrange(4))])
+
+    def hinted(self, identifier):
+        """The identifier, often with bit 16 turned, and now and then bit 17."""
+        return identifier ^ self.weighted([(0, 60), (1 << 16, 37), (1 << 17, 3)])
 
     def choose(self, world, last):
         """An identifier and its arguments, by the world that runs."""
@@ -344,7 +348,7 @@ class Run:
             (lambda: (0xC2000012, [self.address()]), 3),
             (lambda: (0xC2000030, []), 1),
             (lambda: (0x80000000, []), 0.5),
-            (lambda: (0x80000001, [rng.choice(KNOWN[:3])]), 1),
+            (lambda: (0x80000001, [self.hinted(rng.choice(KNOWN[:3]))]), 1),
             (lambda: (self.odd_identifier(), [self.word() for _ in range(7)]), 2),
             (lambda: (rng.choice(KNOWN), [self.word() for _ in range(7)]), 2),
             (lambda: (rng.choice([0xC2000010, 0xC2000011, 0xC40001B0, 0xC40001B1]),
@@ -355,7 +359,7 @@ class Run:
             (lambda: (rng.choice([0x84000004, 0xC4000004]), self.state_arguments()), 3),
             (lambda: (0x84000002, []), 0.6),
             (lambda: (0x84000000, []), 0.5),
-            (lambda: (0x8400000A, [rng.choice(KNOWN[:10] + KNOWN)]), 2),
+            (lambda: (0x8400000A, [self.hinted(rng.choice(KNOWN[:10] + KNOWN))]), 2),
             (lambda: (rng.choice([0xC4000150, 0xC400018E, rng.randint(0xC4000150, 0xC400018E)]), []), 4),
             (lambda: (rng.choice([0xF2000001, self.ledger_identifier(3), self.ledger_identifier(3)]), []), 4),
             (lambda: (rng.choice([0xF2000000, 0xC400018F, 0xC400014F]), []), 0.7),
@@ -374,7 +378,7 @@ class Run:
         identifier, arguments = self.weighted(choices)()
         if identifier == 0x84000002 and last and not self.chance(0.03):
             identifier = 0x84000000  # a run with every core OFF has nothing left to say
-        return identifier, arguments
+        return self.hinted(identifier), arguments
 
     def call(self):
         rng, cores = self.rng, self.machine.cores

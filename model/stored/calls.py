@@ -47,21 +47,21 @@ def calls():
 
 
 def before_the_arguments(s, who):
-    s.part(f"{who}: -1 before the arguments: bits 23 to 16 of a fast call, no entry in the ledger, no such identifier, the other width, a yielding twin")
-    for identifier in (0x84010000, 0x80800000, 0xC2FF0030, 0xC4010150, 0xF2010001, 0x86000000, 0xC3000010, 0x40000150 | 5 << 24,
+    s.part(f"{who}: -1 before the arguments: bits 23 to 17 of a fast call, no entry in the ledger, no such identifier, the other width, a yielding twin")
+    for identifier in (0x84020000, 0x80800000, 0xC2FF0030, 0xC4020150, 0xF2020001, 0x86000000, 0xC3000010, 0x40000150 | 5 << 24,
                        0x84000001, 0x80000002, 0x81000000, 0xC2000013, 0xC2000031, 0xC400014F, 0xC40001AF, 0xC40001B2,
                        0xC0000000, 0xC4000000, 0xC4000002, 0xC400000A, 0x82000012, 0x840001B0, 0x84000150, 0x00000000,
                        0x42000030, 0x04000000, 0x44000150, 0x04010000):
         s.call(who, -1, identifier)
     s.part(f"{who}: the high half of x0 does not count")
-    s.call(who, 0x10002, JUNK + 0x80000000)
+    s.call(who, 0x10003, JUNK + 0x80000000)
     s.call(who, 0x10001 if who == "N0" else -1, JUNK + 0x84000000)
     s.call(who, -1, TOP - 1)
 
 
 def architecture(s, who):
     s.part(f"{who}: 80000000 and 80000001, whose question is read in its low half")
-    s.call(who, 0x10002, 0x80000000)
+    s.call(who, 0x10003, 0x80000000)
     for asked, answer in ((0x80000000, 0), (0x80000001, 0), (JUNK + 0x80000000, 0), (JUNK + 0x80000001, 0), (0x80000002, -1), (0x84000000, -1),
                           (0, -1)):
         s.call(who, answer, 0x80000001, asked)
@@ -333,7 +333,11 @@ def elsewhere():
         s.call("S0", -1, identifier, 0, B)
         s.call("S0", -1, 0xC400018F)
         s.call("S0", "N", 0xF2000000)
-    s.part("bits 23 to 16 and F2000000 from Normal are -1 here too")
-    s.call("N0", -1, 0x84010000)
-    s.call("N0", -1, 0xF2000000)
+    s.part("bits 23 to 17 and F2000000 from Normal are -1 here too, with the hint or without; Secure gets the hint as it was written")
+    for identifier in (0x84020000, 0x84030000, 0xF2000000, 0xF2010000):
+        s.call("N0", -1, identifier)
+    for identifier in (0x84010000, 0xC401018F, 0xF2010001):
+        s.call("N0", "S", identifier, 0, B)
+        s.call("S0", -1, identifier)
+        s.call("S0", "N", 0xF2010000)
     return s

@@ -27,6 +27,7 @@ def edges():
     mappings_at_transfer(s)
     one_operation(s)
     finishes(s)
+    hints(s)
     last_core(s)
     return s
 
@@ -105,9 +106,9 @@ def type_and_owner(s):
 
 def kept_results(s):
     s.part("easy error 2: x1 to x3 keep the caller's values on a call of one result and on a refusal, whatever went before")
-    s.call("N0", 0x10002, 0x80000000, 5, 6, 7)
+    s.call("N0", 0x10003, 0x80000000, 5, 6, 7)
     s.call("N0", (0, B + P + 9, 1), 0xC2000022, P + 9, 6, 7)
-    s.call("N0", 0x10002, 0x80000000, 8, 9, 10)
+    s.call("N0", 0x10003, 0x80000000, 8, 9, 10)
     s.call("N0", -14, 0xC2000022, 17 * P, 6, 7)
     s.call("N0", -1, 0x84000001, TOP - 1, JUNK, 7)
     s.call("N1", 0x10001, 0x84000000)
@@ -208,6 +209,33 @@ def finishes(s):
     s.arrive(0, 1)
     s.call("N1", -1, 0xF2000000)
     s.call("N1", -1, 0xC400018F)
+
+
+def hints(s):
+    s.part(
+        "the hint, bit 16 of a fast identifier, makes no difference, neither to a call nor to a question about one, and is handed over as written;"
+        " bit 17 is -1, and a yielding identifier keeps its bit 16"
+    )
+    s.call("N0", 0x10001, 0x84010000)
+    s.call("N0", -1, 0x84020000)
+    s.call("N0", 0x10003, JUNK + 0x80010000)
+    for asked, answer in ((0x80010000, 0), (0x80010001, 0), (0x00010000, -1), (0x80020000, -1)):
+        s.call("N0", answer, 0x80000001, asked)
+    s.call("N0", 0, 0x80010001, 0x80010000)
+    for asked, answer in ((0x84010002, 0), (0xC4010003, 0), (0x80010000, 0), (0x84020002, -1), (0x04010002, -1)):
+        s.call("N0", answer, 0x8400000A, asked)
+    for identifier in (0x04010000, 0xF2010000, 0xC401018F):
+        s.call("N0", -1, identifier)
+    s.call("N0", "S", 0xF2010001, 1, 2, 3)
+    s.call("S0", 0, 0xC2010010, B + 12 * P, 1)
+    s.call("S0", 1, 0xC2000012, B + 12 * P)
+    s.call("S0", 0, 0xC2010011, B + 12 * P, 1)
+    s.call("S0", -1, 0xC401018F)
+    s.call("S0", -1, 0xF2020000)
+    s.call("S0", "N", 0xF2010000, 4, 5, 6, 7)
+    s.call("N0", "R", 0xC4010150, 8, 9, 10)
+    s.call("R0", -1, 0xC4010150)
+    s.call("R0", "N", 0xC401018F, 11, 12, 13, 14)
 
 
 def last_core(s):

@@ -159,12 +159,12 @@ def after_set_up(s):
     s.arrive(0, 7)
     s.arrive(0x75, 7)
     s.arrive(0x75, 0)
-    s.call("N7", 0x10002, *HELLO)
+    s.call("N7", 0x10003, *HELLO)
     s.call("N7", "off", 0x84000002)
     s.refused(0x75, 7, *HELLO)
     s.arrive(0x75, 7)
     s.part("the last line has no newline")
-    s.call("N0", 0x10002, *HELLO)
+    s.call("N0", 0x10003, *HELLO)
 
 
 def least():

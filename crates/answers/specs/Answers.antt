@@ -20,7 +20,7 @@ bit false = 0
 
 -- the results that an answer writes, from x0 on; what is not in the list is not written
 abbrev pub written : Parts → Answer → List ℕ
-written p Version = 0x10002 ∷ []
+written p Version = 0x10003 ∷ []
 written p PowerVersion = 0x10001 ∷ []
 written p Done = 0 ∷ []
 written p On = 0 ∷ []

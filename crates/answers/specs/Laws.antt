@@ -34,6 +34,20 @@ pub ruleset answers = (writes-owns, writes-nothing, writes-no, writes)
 pub answered : (r q r′ xs : List ℕ) (c w : ℕ) (p : Parts) (a : Answer) → q ≡ saving r c w xs → r′ ≡ saving q c w (written p a) → r′ ≡ answeredBy p r c w xs a
 answered r q r′ xs c w p a e h = rw (← e) h
 
+-- ---- what is written goes by the answer and the width alone
+pub written-width : (p q : Parts) → p .wide ≡ q .wide → (a : Answer) → written p a ≡ written q a
+written-width p q e Version = refl
+written-width p q e PowerVersion = refl
+written-width p q e Done = refl
+written-width p q e On = refl
+written-width p q e Off = refl
+written-width p q e Pending = refl
+written-width p q e (Owns is) = refl
+written-width p q e (Leads phys attr) = refl
+written-width p q e (Count n) = refl
+written-width p q e Silent = refl
+written-width p q e (No r) = refl
+
 -- ---- what an answer leaves
 pub written-few : (p : Parts) (a : Answer) → length (written p a) ≤ 3
 written-few p Version = omega arith
@@ -78,7 +92,7 @@ three-fit a b c (suc (suc j)) h k l = one-fits c j l
 
 pub written-fits : (p : Parts) (a : Answer) → ((phys attr : ℕ) → a ≡ Leads phys attr → (phys < 2 ^ 64) × (attr < 2 ^ 64)) → ((n : ℕ) → a ≡ Count n → n < 2 ^ 64)
     → (j : ℕ) → getD (written p a) j 0 < 2 ^ 64
-written-fits p Version l c j = one-fits 0x10002 j (omega arith)
+written-fits p Version l c j = one-fits 0x10003 j (omega arith)
 written-fits p PowerVersion l c j = one-fits 0x10001 j (omega arith)
 written-fits p Done l c j = one-fits 0 j (omega arith)
 written-fits p On l c j = one-fits 0 j (omega arith)

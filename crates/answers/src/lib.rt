@@ -31,7 +31,7 @@ fn write_answer(t: &mut Saved, core: u64, world: u64, p: Parts, a: Answer)
     ensures { λ _. ⌜ now (t .exit) ≡ saving (now (t .entry)) core world (written p a) ⌝ }
 {
     match a {
-        Answer::Version => registers::save_one(t, core, world, 0x10002),
+        Answer::Version => registers::save_one(t, core, world, 0x10003),
         Answer::PowerVersion => registers::save_one(t, core, world, 0x10001),
         Answer::Done => registers::save_one(t, core, world, 0),
         Answer::On => registers::save_one(t, core, world, 0),

@@ -76,5 +76,5 @@ carriedOut (Start target address context) core caller xs s = withPowers s (start
 carriedOut GoOff core caller xs s = withPowers s (goneOffIn (s .powers) core)
 -- the receiver's x0 to x7 are the caller's, and it runs
 carriedOut (HandOver to) core caller xs s = withTurns (withSaved s (saving (s .saved) core to xs)) (handedIn (s .turns) core to)
--- Normal's numbers from x0 on are the finisher's from x1 on, and Normal runs
+-- Normal's numbers from x0 on are the finisher's from x1 on, as many as it returns, and Normal runs
 carriedOut Finish core caller xs s = withTurns (withSaved s (saving (s .saved) core normal (finishNumbers caller xs))) (finishedIn (s .turns) core)

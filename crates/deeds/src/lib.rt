@@ -47,6 +47,13 @@ fn finish(t: &mut Turns, core: u64)
     cores::set_turn(t, core, was.finished());
 }
 
+// The receiver gets the caller's eight numbers as they stand, the hint of the identifier among them.
+fn receive(t: &mut Saved, core: u64, to: u64, x: &[u64; 8])
+    ensures { λ _. ⌜ now (t .exit) ≡ saving (now (t .entry)) core to (now (x .entry)) ⌝ }
+{
+    registers::save(t, core, to, x);
+}
+
 // How many a finish returns to Normal, by the world that finishes.
 fn returned(world: u64) -> usize
     ensures { λ r. ⌜ r ≡ returned world ⌝ }
@@ -92,7 +99,7 @@ pub fn do_deed(
         } => start(powers, target, address, context),
         Deed::GoOff => go_off(powers, core),
         Deed::HandOver(to) => {
-            registers::save(saved, core, to, x);
+            receive(saved, core, to, x);
             hand_over(turns, core, to);
         }
         Deed::Finish => {

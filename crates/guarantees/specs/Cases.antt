@@ -29,6 +29,7 @@ use Rattle.ranges.specs.declared.Mapping.{Mapping}
 use Rattle.transfers.specs.Transfer.{moveTests, transferVerdict}
 use Rattle.rules.specs.Sizes.{secure, normal, realm}
 use Rattle.judgements.specs.Judge.{HandlerSight, denied, granted, oneOf, callers, calledBy, argsOf, rowIn, transferring, byNumber, byRow, byHandler, found, judgedBy, judged, board, wanted, mapping, unmapping, standard, starting, tellingState, goodStart, ownedAt, moving}
+use Rattle.judgements.specs.Hint.{hint-idle}
 use Rattle.judgements.specs.declared.Answer.{Answer}
 use Rattle.judgements.specs.declared.Answer.the-variants as Answer
 use Rattle.judgements.specs.declared.Deed.the-variants as Deed
@@ -87,10 +88,12 @@ numberOf c (minus n) = negative (calledBy (c .numbers)) n
 
 -- ---- the table
 pub data Row : Type 1 where
-  -- an identifier, and its five parts
+  -- an identifier, and its six parts
   splits : ℕ → Parts → Row
-  -- an identifier that passes the test of bits 23 to 16
+  -- an identifier that passes the test of bits 23 to 17
   passes : ℕ → Row
+  -- an identifier, and another: every call that bears the one is judged as it is with the other
+  judgedAs : ℕ → ℕ → Row
   -- an identifier, and the answer to every call that bears it
   always : ℕ → Told → Row
   -- identifiers, the handler that they reach, the worlds that call, what more the case says of the call, and its answer
@@ -100,6 +103,7 @@ pub data Row : Type 1 where
 abbrev pub Holds : Row → Type 0
 Holds (splits id p) = (x0 : ℕ) → low32 x0 ≡ id → parts (identifierOf x0) ≡ p
 Holds (passes id) = (x0 : ℕ) → low32 x0 ≡ id → admitted (parts (identifierOf x0)) ≡ true
+Holds (judgedAs id other) = (s : State) (core x0 y0 : ℕ) (xs : List ℕ) → low32 x0 ≡ id → low32 y0 ≡ other → judgedIn s core (x0 ∷ xs) ≡ judgedIn s core (y0 ∷ xs)
 Holds (always id a) = (c : Call) → identifier c ≡ id → Answered c (numberOf c a)
 Holds (answers ids h worlds facts a) = (c : Call) → Among (identifier c) ids → Reaches c h → Among (world c) worlds → facts c → Answered c (numberOf c a)
 
@@ -135,10 +139,11 @@ onePage = 0xC40001B0 ∷ 0xC40001B1 ∷ []
 -- the paper's cases, in its order; handler 1 is the board's, 2 the standard one
 abbrev pub table : List Row
 table =
-    splits 0x84000000 (record { fast = 1; wide = 0; owner = 4; function = 0; reserved = 0 })  -- P1
-    ∷ splits 0xC40001B0 (record { fast = 1; wide = 1; owner = 4; function = 0x1B0; reserved = 0 })  -- P2
-    ∷ splits 0xF2000000 (record { fast = 1; wide = 1; owner = 50; function = 0; reserved = 0 })  -- P3
-    ∷ always 0x84010000 (minus 1)  -- P4
+    splits 0x84000000 (record { fast = 1; wide = 0; owner = 4; function = 0; hint = 0; reserved = 0 })  -- P1
+    ∷ splits 0xC40001B0 (record { fast = 1; wide = 1; owner = 4; function = 0x1B0; hint = 0; reserved = 0 })  -- P2
+    ∷ splits 0xF2000000 (record { fast = 1; wide = 1; owner = 50; function = 0; hint = 0; reserved = 0 })  -- P3
+    ∷ judgedAs 0x84010000 0x84000000  -- P4, with the hint
+    ∷ always 0x84020000 (minus 1)  -- P4, with the bit above it
     ∷ passes 0x04010000  -- P5
     ∷ answers onePage 2 (realm ∷ []) (PageAt (λ w. w .base + 4095)) (minus 2)  -- P6
     ∷ answers onePage 2 (realm ∷ []) (PageAt (λ w. w .base + 4096 * w .pages)) (minus 2)  -- P7
@@ -155,14 +160,14 @@ All [] = Unit {0}
 All (r ∷ rs) = Holds r × All rs
 
 -- ---- why each row holds
--- the row behind n others, and the row of this number in the paper
+-- the row behind n others; from P5 on the row of number n in the paper, since P4 has two
 abbrev nth : List Row → ℕ → Row
 nth [] n = passes 0
 nth (r ∷ rs) zero = r
 nth (r ∷ rs) (suc n) = nth rs n
 
 abbrev case : ℕ → Row
-case n = nth table (n - 1)
+case n = nth table n
 
 abbrev judgement : Call → Judged
 judgement c = judgedIn (c .before) (c .core) (c .numbers)
@@ -201,7 +206,11 @@ from-realm e = inr (inr (inl e))
 from-normal : {w : ℕ} → w ≡ normal → Among w anyWorld
 from-normal e = inr (inl e)
 
--- bits 23 to 16 come before all but the test that Root does not call, which has the same answer
+-- the hint makes no difference
+p4-hint : Holds (nth table 3)
+p4-hint s core x0 y0 xs e f = hint-idle (sight s core) (x0 ∷ xs) y0 (omega arith) (omega arith)
+
+-- bits 23 to 17 come before all but the test that Root does not call, which has the same answer
 p4 : Holds (case 4)
 unfolding judged judgedBy identifierOf parts admitted sieve pick
 p4 c e = answered c (Answer.No Reason.Unserved) refl (rw e (either (oneOf (world c) callers) (λ y. rw y) (λ n. rw n)))
@@ -274,4 +283,4 @@ p12 c (inr (inl e)) to (inl r) o = settled c e to (from-normal r) (Answer.No Rea
 -- Every row of the table holds.
 pub table-holds : All table
 unfolding identifierOf parts admitted pick
-table-holds = (λ x0 e. rw e, (λ x0 e. rw e, (λ x0 e. rw e, (p4, (λ x0 e. rw e, (p6, (p7, (p8, (p9, (p10, (p11, (p12, tt))))))))))))
+table-holds = (λ x0 e. rw e, (λ x0 e. rw e, (λ x0 e. rw e, (p4-hint, (p4, (λ x0 e. rw e, (p6, (p7, (p8, (p9, (p10, (p11, (p12, tt)))))))))))))

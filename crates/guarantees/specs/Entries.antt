@@ -118,7 +118,7 @@ is-caller w c =
     ⊎-elim (λ (e : w ≡ normal). rw e)
     (λ (t : Takes w). ⊎-elim (λ (e : w ≡ secure). rw e) (λ (e : w ≡ realm). rw e) t) c
 
--- A call from a world that may call, whose bits 23 to 16 pass the test, is judged by the handler of its type and owner, and refused where there is none.
+-- A call from a world that may call, whose bits 23 to 17 pass the test, is judged by the handler of its type and owner, and refused where there is none.
 pub reaches : (s : State) (core : ℕ) (xs : List ℕ) → Calls (callerOf s core) → admitted (calledBy xs) ≡ true
     → judgedIn s core xs ≡ found (sight s core .inner) (argsOf (calledBy xs) xs) (key xs) (handler (s .ledger) (calledBy xs .fast) (calledBy xs .owner))
 reaches s core xs c ok = judged-found (sight s core) xs (is-caller (callerOf s core) c) ok

@@ -4,9 +4,9 @@ use mathlib.Core.Bool.{true, false}
 use mathlib.Core.List.{List, [], _∷_, _++_}
 use mathlib.Core.Logic.{_⊎_}
 use mathlib.Core.Option.{some}
-use Prim.Native.Nat.{ℕ, zero, suc, _+_, _-_, _%_, _≤_, _<_}
+use Prim.Native.Nat.{ℕ, zero, suc, _+_, _-_, _*_, _%_, _≤_, _<_}
 use lib.Dec.{eqb}
-use lib.ListN.{length, getD}
+use lib.ListN.{length, getD, drop}
 use Rattle.rules.specs.Choice.{pick}
 use Rattle.rules.specs.declared.Reason.{Reason}
 use Rattle.ledger.specs.Ledger.{handler}
@@ -30,6 +30,7 @@ use Rattle.mapping.specs.declared.Lead.the-variants.{To}
 use Rattle.rules.specs.Sizes.{normal}
 use Rattle.judgements.specs.Judge.{calledBy, argsOf, found}
 use Rattle.judgements.specs.Grounds.{Calls, Takes}
+use Rattle.judgements.specs.Hint.{Known}
 use Rattle.judgements.specs.declared.Answer.the-variants.{No}
 use Rattle.rules.specs.Reasons.{minus}
 use Rattle.answers.specs.Answers.{negative}
@@ -152,6 +153,10 @@ pub record Startable (m : Machine) (core address : ℕ) : Type 0 where
   pub inside : InPage (window m) address page
   pub owned : ownerIn m page ≡ normal
 
+-- the calls that 8400000A affirms
+abbrev pub powerKnown : List ℕ
+powerKnown = 0x84000000 ∷ 0x84000002 ∷ 0x84000003 ∷ 0xC4000003 ∷ 0x84000004 ∷ 0xC4000004 ∷ 0x8400000A ∷ 0x80000000 ∷ []
+
 -- ---- a call on a core with its numbers x0 to x7
 module _ (m : Machine) (core : ℕ) (xs : List ℕ) where
   -- who calls, and an argument as the call reads it
@@ -165,7 +170,7 @@ module _ (m : Machine) (core : ℕ) (xs : List ℕ) where
   abbrev pub giver : ℕ → ℕ
   giver to = pick (eqb to normal) caller normal
 
-  -- what the call is: it passes the test on bits 23 to 16, reaches this handler and has this identifier
+  -- what the call is: it passes the test on bits 23 to 17, reaches this handler and has this identifier, but for the hint of a fast call
   abbrev pub Is : ℕ → ℕ → Type 0
   Is h id = Reached (sight (stateOf m) core) xs (λ n. (n ≡ h) × (key xs ≡ id))
 
@@ -208,9 +213,23 @@ module _ (m : Machine) (core : ℕ) (xs : List ℕ) where
       -- Set-up has ended.
       pub set-up-ends : ended (last .setup) ≡ true
       -- ---- who judges it
-      -- A fast call with one of bits 23 to 16 set is refused with -1, whatever its owner.
-      pub reserved : bits 31 31 (getD xs 0 0) ≡ 1 → (bits 23 16 (getD xs 0 0) ≡ 0 → ⊥) → last ≡ denied 1
-      -- A call that passes that test is judged by the handler that the ledger has for its type and owner, or by none.
+      -- A fast call with one of bits 23 to 17 set is refused with -1, whatever its owner.
+      pub reserved : bits 31 31 (getD xs 0 0) ≡ 1 → (bits 23 17 (getD xs 0 0) ≡ 0 → ⊥) → last ≡ denied 1
+      -- Every other call passes the test on these bits.
+      pub passes : (bits 31 31 (getD xs 0 0) ≡ 1 → bits 23 17 (getD xs 0 0) ≡ 0) → admitted (calledBy xs) ≡ true
+      -- The type, the width and the owner of a call are these bits of its x0; of an argument it reads the low half, or all.
+      pub type-read : calledBy xs .fast ≡ bits 31 31 (getD xs 0 0)
+      pub width-read : calledBy xs .wide ≡ bits 30 30 (getD xs 0 0)
+      pub owner-read : calledBy xs .owner ≡ bits 29 24 (getD xs 0 0)
+      pub half-read : (i : ℕ) → bits 30 30 (getD xs 0 0) ≡ 0 → arg i ≡ getD xs i 0 % 4294967296
+      pub all-read : (i : ℕ) → bits 30 30 (getD xs 0 0) ≡ 1 → arg i ≡ getD xs i 0
+      -- A call goes by the low half of its x0, of which, in a fast call, bit 16 does not count,
+      pub named-fast : bits 31 31 (getD xs 0 0) ≡ 1 → key xs + bits 16 16 (getD xs 0 0) * 65536 ≡ getD xs 0 0 % 4294967296
+      pub named-yielding : bits 31 31 (getD xs 0 0) ≡ 0 → key xs ≡ getD xs 0 0 % 4294967296
+      -- so that a fast call is judged and answered as it is with any other x0 whose low half is the same but for bit 16, and has that bit clear.
+      pub hint-idle : (y0 : ℕ) → bits 31 31 (getD xs 0 0) ≡ 1 → y0 % 4294967296 + bits 16 16 (getD xs 0 0) * 65536 ≡ getD xs 0 0 % 4294967296
+          → (judgedIn (stateOf m) core xs ≡ judgedIn (stateOf m) core (y0 ∷ drop 1 xs)) × (resultsIn (stateOf m) core xs ≡ resultsIn (stateOf m) core (y0 ∷ drop 1 xs))
+      -- A call that passes the test on bits 23 to 17 is judged by the handler that the ledger has for its type and owner, or by none.
       pub dispatched : admitted (calledBy xs) ≡ true
           → judgedIn (stateOf m) core xs ≡ found (sight (stateOf m) core .inner) (argsOf (calledBy xs) xs) (key xs) (handler (m .ledger) (calledBy xs .fast) (calledBy xs .owner))
       -- A call for whose type and owner it has none is refused with -1.
@@ -230,6 +249,15 @@ module _ (m : Machine) (core : ℕ) (xs : List ℕ) where
       pub not-written : (j : ℕ) → 0 < j → j < 8 → (Is 1 0xC2000022 → x 0 ≡ 0 → j ≤ 2 → ⊥) → x j ≡ getD xs j 0
       -- These are where its address leads, by the caller's list.
       pub where-told : Is 1 0xC2000022 → x 0 ≡ 0 → leadOf (mapped m caller) (arg 1) ≡ To (x 1) (x 2)
+      -- 80000000 is answered with the version of the calling convention, 84000000 from Normal with that of core power.
+      pub version-told : Is 0 0x80000000 → x 0 ≡ 0x10003
+      pub power-version-told : caller ≡ normal → Is 2 0x84000000 → x 0 ≡ 0x10001
+      -- 80000001 is answered 0 where the low half of x1 is 80000000 or 80000001, with bit 16 set or not, and else refused with -1.
+      pub features-known : Is 0 0x80000001 → Known (getD xs 1 0 % 4294967296) (0x80000000 ∷ 0x80000001 ∷ []) → x 0 ≡ 0
+      pub features-unknown : Is 0 0x80000001 → (Known (getD xs 1 0 % 4294967296) (0x80000000 ∷ 0x80000001 ∷ []) → ⊥) → last ≡ denied 1
+      -- 8400000A from Normal is answered so by the calls of core power and 80000000.
+      pub power-features-known : caller ≡ normal → Is 2 0x8400000A → Known (getD xs 1 0 % 4294967296) powerKnown → x 0 ≡ 0
+      pub power-features-unknown : caller ≡ normal → Is 2 0x8400000A → (Known (getD xs 1 0 % 4294967296) powerKnown → ⊥) → last ≡ denied 1
       -- C2000030 is answered with the number of cores, of the eight, that are ON.
       pub count-told : Is 1 0xC2000030 → x 0 ≡ onBelow m 8
       -- ---- what others find

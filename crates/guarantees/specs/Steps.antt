@@ -1,17 +1,17 @@
 -- One line: why it leaves what it leaves.
 use mathlib.Core.Path.{_≡_, refl, sym, ap, _∙_}
-use mathlib.Core.Bool.{true, false}
-use mathlib.Core.List.{List}
+use mathlib.Core.Bool.{Bool, true, false}
+use mathlib.Core.List.{List, [], _∷_}
 use Prim.Native.Nat.{ℕ, zero, suc, _%_, _^_, _<_}
 use native.Mathlib.Omega.{arith}
-use lib.Dec.{leb}
-use lib.ListN.{length, getD}
-use borrow.Author.Tests.{leb-true, leb-false, eq-eqb, ne-eqb}
-use Rattle.rules.specs.Choice.{pick-yes, pick-no, either}
+use lib.Dec.{leb, eqb}
+use lib.ListN.{length, getD, drop}
+use borrow.Author.Tests.{leb-true, leb-false, eqb-true, eq-eqb, ne-eqb}
+use Rattle.rules.specs.Choice.{pick, pick-yes, pick-no, chosen, either}
 use Rattle.rules.specs.Reasons.{minus}
 use Rattle.rules.specs.declared.Reason.{Reason}
 use Rattle.rules.specs.declared.Reason.the-variants as Reason
-use Rattle.identifiers.specs.Identifier.{bits, identifierOf, parts, admitted}
+use Rattle.identifiers.specs.Identifier.{bits, identifierOf, parts, admitted, argument}
 use Rattle.ledger.specs.Ledger.{handler}
 use Rattle.ledger.specs.declared.Lookup.the-variants.{Nobody}
 use Rattle.registers.specs.Registers.{Whole, saved, shownOf}
@@ -21,17 +21,22 @@ use Rattle.ranges.specs.declared.Mapping.{Mapping}
 use Rattle.mapping.specs.Lists.{held}
 use Rattle.mapping.specs.Sound.{granted-formed}
 use Rattle.rules.specs.Sizes.{secure, normal, mostCores}
-use Rattle.judgements.specs.Judge.{calledBy, argsOf, found, wanted}
+use Rattle.judgements.specs.Judge.{calledBy, argsOf, affirmed, found, wanted}
 use Rattle.judgements.specs.Asked.{Finishes, by-secure, by-realm, called-for, leads-asked, judged-reserved}
-use Rattle.judgements.specs.Decided.{asked-map, asked-unmap, asked-start, asked-off, asked-hand-over, asked-finish, asked-where, asked-count}
+use Rattle.judgements.specs.Decided.{asked-map, asked-unmap, asked-start, asked-off, asked-hand-over, asked-finish, asked-where, asked-count, asked-version, asked-power-version, asked-features, asked-power-features}
+use Rattle.judgements.specs.Hint.{hint-idle, hint-width, fast-key, yielding-key, Plain, asked-known, asked-unknown}
 use Rattle.judgements.specs.Grounds.{grounded}
+use Rattle.judgements.specs.declared.Answer.{Answer}
+use Rattle.judgements.specs.declared.Answer.the-variants as Answer
 use Rattle.judgements.specs.declared.Answer.the-variants.{No}
 use Rattle.judgements.specs.declared.Deed.{Deed}
 use Rattle.judgements.specs.declared.Deed.the-variants.{Nothing, Move, Map, Unmap, Start, GoOff, HandOver, Finish}
 use Rattle.judgements.specs.declared.Judged.{Judged}
+use Rattle.answers.specs.Answers.{written}
+use Rattle.answers.specs.Laws.{written-width}
 use Rattle.calls.specs.Step.{State, sight, callerOf, startNumbers, arrivedIn}
 use Rattle.calls.specs.Effects as Effects
-use Rattle.calls.specs.Effects.{deedIn, answerIn, Receives, Carries, returned, returned-realm, returned-other}
+use Rattle.calls.specs.Effects.{deedIn, answerIn, resultsIn, Receives, Carries, returned, returned-realm, returned-other}
 use Rattle.calls.specs.Left as Left
 use Rattle.parsing.specs.declared.Status.the-variants.{Accepted}
 use Rattle.parsing.specs.declared.Frame.{Frame}
@@ -49,7 +54,7 @@ use Rattle.guarantees.specs.Entries.{reaches}
 use Rattle.guarantees.specs.Accepted.{partly, performs, right, inside, may, calling, saved-are, owners-are, powers-are, turns-are, lists-are, done-told, told-done, transfer-moves, moves-granted}
 use Rattle.guarantees.specs.Counted.{on-counted}
 use Rattle.guarantees.specs.Met.{had, startable}
-use Rattle.guarantees.specs.Statements.{running, caller, arg, HandsOver, GivesBack, SwitchesOff, denied, HeededCall, HeededArrival, HeededOther, Heeded}
+use Rattle.guarantees.specs.Statements.{running, caller, arg, HandsOver, GivesBack, SwitchesOff, powerKnown, denied, HeededCall, HeededArrival, HeededOther, Heeded}
 
 -- only a hand-over to a world, or a finish, writes the world's numbers
 received : (d : Deed) (u : ℕ) → ((to : ℕ) → d ≡ HandOver to → ⊥) → (d ≡ Finish → ⊥) → Receives d u → ⊥
@@ -78,14 +83,58 @@ finisher : {h k w : ℕ} → Finishes h k w → w ≡ normal → ⊥
 finisher by-secure e = omega arith
 finisher by-realm e = omega arith
 
--- a fast identifier with one of bits 23 to 16 set does not pass the test
-reserved-fails : (xs : List ℕ) → bits 31 31 (getD xs 0 0) ≡ 1 → (bits 23 16 (getD xs 0 0) ≡ 0 → ⊥) → admitted (calledBy xs) ≡ false
+-- a fast identifier with one of bits 23 to 17 set does not pass the test
+reserved-fails : (xs : List ℕ) → bits 31 31 (getD xs 0 0) ≡ 1 → (bits 23 17 (getD xs 0 0) ≡ 0 → ⊥) → admitted (calledBy xs) ≡ false
 unfolding admitted parts identifierOf
 reserved-fails xs fast some =
     let n = getD xs 0 0 in
     let f : bits 31 31 (n % 2 ^ 32) ≡ 1 = omega arith in
-    let g : bits 23 16 (n % 2 ^ 32) ≡ 0 → ⊥ = λ z. some (omega arith) in
+    let g : bits 23 17 (n % 2 ^ 32) ≡ 0 → ⊥ = λ z. some (omega arith) in
     pick-yes _ _ _ (eq-eqb _ 1 f) ∙ ne-eqb _ 0 g
+
+-- any other passes it
+passing : (xs : List ℕ) → (bits 31 31 (getD xs 0 0) ≡ 1 → bits 23 17 (getD xs 0 0) ≡ 0) → admitted (calledBy xs) ≡ true
+unfolding admitted parts identifierOf
+passing xs none =
+    let n = getD xs 0 0 in
+    chosen (λ (b : Bool). b ≡ true) (eqb (bits 31 31 (n % 2 ^ 32)) 1) _ true
+    (λ y. let f : bits 31 31 (n % 2 ^ 32) ≡ 1 = eqb-true _ _ y in let z = none (omega arith) in let g : bits 23 17 (n % 2 ^ 32) ≡ 0 = omega arith in eq-eqb _ 0 g)
+    (λ y. refl)
+
+-- the low half of x0 has these bits of x0
+module _ (xs : List ℕ) where
+  type-low : calledBy xs .fast ≡ bits 31 31 (getD xs 0 0)
+  unfolding parts identifierOf
+  type-low = let n = getD xs 0 0 in let e : bits 31 31 (n % 2 ^ 32) ≡ bits 31 31 n = omega arith in e
+
+  width-low : calledBy xs .wide ≡ bits 30 30 (getD xs 0 0)
+  unfolding parts identifierOf
+  width-low = let n = getD xs 0 0 in let e : bits 30 30 (n % 2 ^ 32) ≡ bits 30 30 n = omega arith in e
+
+  owner-low : calledBy xs .owner ≡ bits 29 24 (getD xs 0 0)
+  unfolding parts identifierOf
+  owner-low = let n = getD xs 0 0 in let e : bits 29 24 (n % 2 ^ 32) ≡ bits 29 24 n = omega arith in e
+
+  -- an argument as it is read
+  half : (i : ℕ) → bits 30 30 (getD xs 0 0) ≡ 0 → argument (calledBy xs) (getD xs i 0) ≡ getD xs i 0 % 4294967296
+  unfolding argument
+  half i b = pick-yes _ _ _ (eq-eqb _ 0 (width-low ∙ b))
+
+  full : (i : ℕ) → bits 30 30 (getD xs 0 0) ≡ 1 → argument (calledBy xs) (getD xs i 0) ≡ getD xs i 0
+  unfolding argument
+  full i b = pick-no _ _ _ (ne-eqb _ 0 (λ (z : calledBy xs .wide ≡ 0). let w = width-low in omega arith))
+
+-- a question that is affirmed, and one that is not
+affirms : (b : Bool) → b ≡ true → affirmed b .answer ≡ Answer.Done
+unfolding affirmed pick
+affirms b e = rw e
+
+denies : (b : Bool) → b ≡ false → affirmed b .answer ≡ No Reason.Unserved
+unfolding affirmed pick
+denies b e = rw e
+
+powers-plain : Plain powerKnown
+powers-plain = ((refl, refl), ((refl, refl), ((refl, refl), ((refl, refl), ((refl, refl), ((refl, refl), ((refl, refl), ((refl, refl), tt))))))))
 
 -- ---- a call that is accepted
 module _ (m : Machine) (fit : Fit m) (e : Event) (core : ℕ) (is : e .0 ≡ Frame.Call core) (t : Taken (reply m e)) where
@@ -137,7 +186,7 @@ module _ (m : Machine) (fit : Fit m) (e : Event) (core : ℕ) (is : e .0 ≡ Fra
       ∙ ap (λ (s : State). record { setup = over (m .setup); named = m .named; ledger = s .ledger; owners = s .owners; saved = s .saved; powers = s .powers; turns = s .turns; lists = s .lists })
       (Effects.refused s core xs r a)
 
-  -- a call that no handler judges, whether or not it passes the test on bits 23 to 16
+  -- a call that no handler judges, whether or not it passes the test on bits 23 to 17
   nobody-answers : handler (m .ledger) (calledBy xs .fast) (calledBy xs .owner) ≡ Nobody → answerIn s core xs ≡ No Reason.Unserved
   unfolding found
   nobody-answers n =
@@ -172,6 +221,12 @@ module _ (m : Machine) (fit : Fit m) (e : Event) (core : ℕ) (is : e .0 ≡ Fra
       let g = rw d at (grounded (sight s core) xs .stands) in
       omega (arith, granted-formed (s .site .window) (right m fit e core is t .window) (held (s .lists) (callerOf s core)) (s .owners) (callerOf s core) n (g .verdict) .some)
 
+  -- what an answer of one number leaves in x0
+  tells : (a : Answer) {n : ℕ} → written (calledBy xs) a ≡ n ∷ [] → answerIn s core xs ≡ a → saved (next m e .saved) core (caller m core xs) 0 ≡ n
+  tells a {n} w b =
+      let r : resultsIn s core xs ≡ n ∷ [] = rw (b, w) in
+      rw (saved-are m fit e core is t) (Effects.own-results s core xs 0 whole (inside m fit e core is t) (calling m fit e core is t) (rw r (omega arith)) ∙ rw r)
+
   pub call-heeded : length xs ≡ 8 → HeededCall m core xs (next m e) (reply m e)
   unfolding shownOn shownOf argsOf
   call-heeded l =
@@ -186,6 +241,23 @@ module _ (m : Machine) (fit : Fit m) (e : Event) (core : ℕ) (is : e .0 ≡ Fra
         shown-off = λ n. shows ∙ pick-no _ _ _ n;
         set-up-ends = ends;
         reserved = λ fast some. refuses Reason.Unserved (ap (λ (j : Judged). j .answer) (judged-reserved (sight s core) xs (reserved-fails xs fast some)));
+        passes = passing xs;
+        type-read = type-low xs;
+        width-read = width-low xs;
+        owner-read = owner-low xs;
+        half-read = λ k b. half xs k b;
+        all-read = λ k b. full xs k b;
+        named-fast = λ f. fast-key xs f;
+        named-yielding = λ y. yielding-key xs y;
+        hint-idle = λ y0 f h.
+            let j = hint-idle (sight s core) xs y0 f h in
+            (j, written-width (calledBy xs) (calledBy (y0 ∷ drop 1 xs)) (hint-width xs y0 h) (answerIn s core xs) ∙ ap (λ (j : Judged). written (calledBy (y0 ∷ drop 1 xs)) (j .answer)) j);
+        version-told = λ a. tells Answer.Version refl (asked-version (sight s core) xs (may m fit e core is t) a);
+        power-version-told = λ n a. tells Answer.PowerVersion refl (asked-power-version (sight s core) xs (may m fit e core is t) n a);
+        features-known = λ a k. tells Answer.Done refl (asked-features (sight s core) xs (may m fit e core is t) a ∙ affirms _ (asked-known xs _ ((refl, refl), ((refl, refl), tt)) k));
+        features-unknown = λ a d. refuses Reason.Unserved (asked-features (sight s core) xs (may m fit e core is t) a ∙ denies _ (asked-unknown xs _ d));
+        power-features-known = λ n a k. tells Answer.Done refl (asked-power-features (sight s core) xs (may m fit e core is t) n a ∙ affirms _ (asked-known xs powerKnown powers-plain k));
+        power-features-unknown = λ n a d. refuses Reason.Unserved (asked-power-features (sight s core) xs (may m fit e core is t) n a ∙ denies _ (asked-unknown xs powerKnown d));
         dispatched = λ ok. reaches s core xs (r .running core i .world) ok;
         unserved = λ n. refuses Reason.Unserved (nobody-answers n);
         refused = refuses;

@@ -68,7 +68,7 @@ module _ (run : Events) (m : Machine) (given : List Reply) (f : Follows first ru
     any-line =
         rw (ap (λ (o : Machine × Reply). o .0) step, ap (λ (o : Machine × Reply). o .1) step, follows-is f .0) (heeded (ran first run) (ran-fit run) e)
 
-    -- If it is a call that passes the test on bits 23 to 16, it reaches the handler of the one accepted entry that covers it, or nobody.
+    -- If it is a call that passes the test on bits 23 to 17, it reaches the handler of the one accepted entry that covers it, or nobody.
     pub any-call : (core : ℕ) → e .0 ≡ Frame.Call core → length (e .1) ≡ 8 → Taken answer → admitted (calledBy (e .1)) ≡ true → Dispatched run m core (e .1)
     any-call core is l t ok =
         record {

@@ -1,6 +1,6 @@
 // The identifier of a call: its parts, and the identifier that parts make.
 ghost use mathlib.Core.Path.{_≡_};
-ghost use Rattle.identifiers.specs.Identifier.{identifierOf, parts, joined, keyOf, admitted, argument};
+ghost use Rattle.identifiers.specs.Identifier.{identifierOf, parts, fitting, InRange, wholeOf, joined, keyOf, admitted, argument};
 
 // One past the largest number of 32 bits.
 const LIMIT: u64 = 1 << 32;
@@ -16,7 +16,9 @@ pub struct Parts {
     pub wide: u32,
     pub owner: u32,
     pub function: u32,
-    // bits 23 to 16, zero in a fast call
+    // 1 where a fast call hints that SVE's registers hold nothing
+    pub hint: u32,
+    // bits 23 to 17, zero in a fast call
     pub reserved: u32,
 }
 
@@ -37,7 +39,9 @@ impl Identifier {
 
     const FUNCTION_AT: u32 = 0;
 
-    const RESERVED_AT: u32 = 16;
+    const HINT_AT: u32 = 16;
+
+    const RESERVED_AT: u32 = 17;
 
     // How many numbers each field has room for.
     const FAST_ROOM: u32 = 1 << 1;
@@ -48,7 +52,9 @@ impl Identifier {
 
     const FUNCTION_ROOM: u32 = 1 << 16;
 
-    const RESERVED_ROOM: u32 = 1 << 8;
+    const HINT_ROOM: u32 = 1 << 1;
+
+    const RESERVED_ROOM: u32 = 1 << 7;
 
     // The identifier that a caller's x0 holds.
     pub fn of(x0: u64) -> Identifier
@@ -67,6 +73,7 @@ impl Identifier {
             wide: (n >> Identifier::WIDE_AT) % Identifier::WIDE_ROOM,
             owner: (n >> Identifier::OWNER_AT) % Identifier::OWNER_ROOM,
             function: (n >> Identifier::FUNCTION_AT) % Identifier::FUNCTION_ROOM,
+            hint: (n >> Identifier::HINT_AT) % Identifier::HINT_ROOM,
             reserved: (n >> Identifier::RESERVED_AT) % Identifier::RESERVED_ROOM,
         }
     }
@@ -75,40 +82,52 @@ impl Identifier {
     pub fn join(p: Parts) -> Joined
         ensures { λ r. ⌜ r ≡ joined p ⌝ }
     {
-        if Identifier::FAST_ROOM <= p.fast {
-            return Joined::TooLarge;
+        if p.fit() {
+            return Joined::Whole(p.whole());
         }
-        if Identifier::WIDE_ROOM <= p.wide {
-            return Joined::TooLarge;
-        }
-        if Identifier::OWNER_ROOM <= p.owner {
-            return Joined::TooLarge;
-        }
-        if Identifier::FUNCTION_ROOM <= p.function {
-            return Joined::TooLarge;
-        }
-        if Identifier::RESERVED_ROOM <= p.reserved {
-            return Joined::TooLarge;
-        }
-        Joined::Whole(Identifier(
-            (p.fast << Identifier::FAST_AT)
-                + (p.wide << Identifier::WIDE_AT)
-                + (p.owner << Identifier::OWNER_AT)
-                + (p.reserved << Identifier::RESERVED_AT)
-                + (p.function << Identifier::FUNCTION_AT),
-        ))
+        Joined::TooLarge
     }
 
-    // The one key by which identifiers are compared.
+    // The one key by which identifiers are compared: that of a fast call has its hint cleared.
     pub fn key(self) -> u32
         ensures { λ r. ⌜ r ≡ keyOf self ⌝ }
     {
-        self.0
+        let n = self.0;
+        if (n >> Identifier::FAST_AT) % Identifier::FAST_ROOM == 1 {
+            let hint = (n >> Identifier::HINT_AT) % Identifier::HINT_ROOM;
+            return n - (hint << Identifier::HINT_AT);
+        }
+        n
     }
 }
 
 impl Parts {
-    // Whether the call passes the test on bits 23 to 16.
+    // Whether each part fits its field.
+    fn fit(self) -> bool
+        ensures { λ r. ⌜ r ≡ fitting self ⌝ }
+    {
+        if Identifier::FAST_ROOM <= self.fast {
+            return false;
+        }
+        if Identifier::WIDE_ROOM <= self.wide {
+            return false;
+        }
+        if Identifier::OWNER_ROOM <= self.owner {
+            return false;
+        }
+        if Identifier::FUNCTION_ROOM <= self.function {
+            return false;
+        }
+        if Identifier::HINT_ROOM <= self.hint {
+            return false;
+        }
+        if Identifier::RESERVED_ROOM <= self.reserved {
+            return false;
+        }
+        true
+    }
+
+    // Whether the call passes the test on bits 23 to 17.
     pub fn admitted(self) -> bool
         ensures { λ r. ⌜ r ≡ admitted self ⌝ }
     {
@@ -116,6 +135,18 @@ impl Parts {
             return self.reserved == 0;
         }
         true
+    }
+
+    // The identifier whose fields hold these parts.
+    fn whole(self) -> Identifier
+        requires { ⌜ InRange self ⌝ }
+        ensures { λ r. ⌜ r ≡ wholeOf self ⌝ }
+    {
+        let high = (self.fast << Identifier::FAST_AT) + (self.wide << Identifier::WIDE_AT);
+        let middle = (self.owner << Identifier::OWNER_AT)
+            + (self.reserved << Identifier::RESERVED_AT);
+        let low = (self.hint << Identifier::HINT_AT) + (self.function << Identifier::FUNCTION_AT);
+        Identifier(high + middle + low)
     }
 
     // What the call reads of an argument.

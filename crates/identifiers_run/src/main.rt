@@ -25,15 +25,17 @@ fn say_parts(p: Parts) {
     number(b", wide ", p.wide, 1);
     number(b", owner ", p.owner, 2);
     number(b", function ", p.function, 4);
+    number(b", hint ", p.hint, 1);
     number(b", reserved ", p.reserved, 2);
 }
 
-// The parts of the identifier in x0, and what they make when joined.
+// The parts of the identifier in x0, its key, and what the parts make when joined.
 fn show(x0: u64) {
     let i = Identifier::of(x0);
     let p = i.split();
-    number(b"", i.key(), 8);
+    number(b"", i.0, 8);
     say_parts(p);
+    number(b"; key ", i.key(), 8);
     say(b"; ");
     say_joined(p);
     if p.admitted() {
@@ -44,12 +46,13 @@ fn show(x0: u64) {
 }
 
 // What becomes of these parts.
-fn join(fast: u32, wide: u32, owner: u32, function: u32, reserved: u32) {
+fn join(fast: u32, wide: u32, owner: u32, function: u32, hint: u32, reserved: u32) {
     say_joined(Parts {
         fast,
         wide,
         owner,
         function,
+        hint,
         reserved,
     });
     say(b"\n");
@@ -85,22 +88,25 @@ fn calls() {
     show(0xC2000030);
 }
 
-// P3, P4 and P5, and an x0 whose upper half does not count.
+// P3, both of P4, and P5; the bit above the hint in a yielding call; and an x0 whose upper half does not count.
 fn edges() {
     show(0xF2000000);
     show(0x84010000);
+    show(0x84020000);
     show(0x04010000);
+    show(0x04020000);
     show(0x1234567884000000);
 }
 
 // The largest part of each field, and then each part one too large.
 fn joins() {
-    join(1, 1, 63, 65535, 255);
-    join(2, 1, 63, 65535, 255);
-    join(1, 2, 63, 65535, 255);
-    join(1, 1, 64, 65535, 255);
-    join(1, 1, 63, 65536, 255);
-    join(1, 1, 63, 65535, 256);
+    join(1, 1, 63, 65535, 1, 127);
+    join(2, 1, 63, 65535, 1, 127);
+    join(1, 2, 63, 65535, 1, 127);
+    join(1, 1, 64, 65535, 1, 127);
+    join(1, 1, 63, 65536, 1, 127);
+    join(1, 1, 63, 65535, 2, 127);
+    join(1, 1, 63, 65535, 1, 128);
 }
 
 fn main() {

@@ -57,13 +57,13 @@ pub record AsksAt (v : Caller) (a : Args) (h key first count to : ℕ) : Type 0 
 
 -- a hand-over to a world
 pub data HandsTo : ℕ → ℕ → ℕ → Type 0 where
-  to-secure : (key : ℕ) → (key ≡ secureFinish → ⊥) → HandsTo 3 key secure
-  to-realm : (key : ℕ) → realmFirst ≤ key → key ≤ realmLast → HandsTo 2 key realm
+  to-secure : (key : ℕ) → (key ≡ 0xF2000000 → ⊥) → HandsTo 3 key secure
+  to-realm : (key : ℕ) → 0xC4000150 ≤ key → key ≤ 0xC400018E → HandsTo 2 key realm
 
 -- a finish by a world
 pub data Finishes : ℕ → ℕ → ℕ → Type 0 where
-  by-secure : Finishes 3 secureFinish secure
-  by-realm : Finishes 2 realmFinish realm
+  by-secure : Finishes 3 0xF2000000 secure
+  by-realm : Finishes 2 0xC400018F realm
 
 -- an answer for which nothing is done: where an address leads, and how many cores are ON, is told to the call that asks for it alone
 abbrev pub Tells : ℕ → ℕ → Answer → Type 0
@@ -215,11 +215,11 @@ module _ (s : HandlerSight) (a : Args) (h key : ℕ) where
   handlers = rows (rowOf a h key) refl
 
 -- ---- the whole judgement
--- the identifier of a call
+-- what a call goes by: its identifier, of a fast call without the hint
 abbrev pub key : List ℕ → ℕ
 key xs = keyOf (identifierOf (getD xs 0 0))
 
--- the call passes the test on bits 23 to 16, and the ledger sends its type and owner to a handler, of which this is so
+-- the call passes the test on bits 23 to 17, and the ledger sends its type and owner to a handler, of which this is so
 pub record Reached (s : Sight) (xs : List ℕ) (P : ℕ → Type 0) : Type 0 where
   pub passes : admitted (calledBy xs) ≡ true
   pub number : ℕ
@@ -283,13 +283,13 @@ module _ (s : Sight) (xs : List ℕ) where
       told-asked (Answer.Count n) (λ e. let z : _≡_ {A = ℕ} 0 1 = cc in omega arith) (λ e. let z : _≡_ {A = ℕ} 0 1 = cc in omega arith)
       (λ q e. let z : _≡_ {A = ℕ} 0 1 = cc in omega arith)
 
--- A call from a world that may call, whose bits 23 to 16 pass the test, is judged by the handler of its type and owner, and refused where there is none.
+-- A call from a world that may call, whose bits 23 to 17 pass the test, is judged by the handler of its type and owner, and refused where there is none.
 pub judged-found : (s : Sight) (xs : List ℕ) → oneOf (s .inner .caller .world) callers ≡ true → admitted (calledBy xs) ≡ true
     → judged s xs ≡ found (s .inner) (argsOf (calledBy xs) xs) (key xs) (handler (s .ledger) (calledBy xs .fast) (calledBy xs .owner))
 unfolding judged judgedBy
 judged-found s xs c ok = sym (goes _ _ _ _ _ _ (Choice.not-false _ c) (goes _ _ _ _ _ _ (Choice.not-false _ ok) (ends _ _ _ refl)))
 
--- A call whose bits 23 to 16 do not pass it is refused, whatever its owner.
+-- A call whose bits 23 to 17 do not pass it is refused, whatever its owner.
 pub judged-reserved : (s : Sight) (xs : List ℕ) → admitted (calledBy xs) ≡ false → judged s xs ≡ denied Reason.Unserved
 unfolding judged judgedBy sieve pick
 judged-reserved s xs e = either (oneOf (s .inner .caller .world) callers) (λ y. rw (y, e)) (λ n. rw n)

@@ -1,7 +1,7 @@
 -- And what is asked for is done, or refused: a judgement of such a call by its two outcomes.
 use mathlib.Core.Path.{_≡_, refl, sym, ap, _∙_}
 use mathlib.Core.Bool.{Bool, true, false}
-use mathlib.Core.List.{List}
+use mathlib.Core.List.{List, [], _∷_}
 use mathlib.Core.Logic.{_⊎_, inl, inr}
 use Prim.Native.Nat.{ℕ}
 use native.Mathlib.Omega.{arith}
@@ -24,8 +24,8 @@ use Rattle.mapping.specs.declared.Lead.the-variants as Lead
 use Rattle.transfers.specs.declared.Verdict.{Verdict as Moving}
 use Rattle.transfers.specs.declared.Verdict.the-variants as Moving
 use Rattle.rules.specs.Sizes.{normal}
-use Rattle.judgements.specs.Names.{powerVersion, coreOff, coreStart, coreStartWide, coreState, coreStateWide, powerFeatures, granuleToRealm, granuleToNormal, realmFirst, realmLast, realmFinish, mapPages, unmapPages, whereLeads, countOn, secureFinish}
-use Rattle.judgements.specs.Judge.{HandlerSight, Sight, denied, tested, oneOf, callers, wanted, calledBy, argsOf, starting, goingOff, moving, rowIn, transferring, byNumber, byRow, mapping, unmapping, leading, board, handing, finishing, handingToRealm, realmCall, standard, trusted, byHandler, found, judged}
+use Rattle.judgements.specs.Names.{version, features, powerVersion, coreOff, coreStart, coreStartWide, coreState, coreStateWide, powerFeatures, granuleToRealm, granuleToNormal, realmFirst, realmLast, realmFinish, mapPages, unmapPages, whereLeads, countOn, secureFinish}
+use Rattle.judgements.specs.Judge.{HandlerSight, Sight, denied, tested, oneOf, callers, wanted, calledBy, argsOf, asked, affirmed, featuring, versioning, powerFeaturing, architecture, starting, goingOff, moving, rowIn, transferring, byNumber, byRow, mapping, unmapping, leading, board, handing, finishing, handingToRealm, realmCall, standard, trusted, byHandler, found, judged}
 use Rattle.judgements.specs.declared.Answer.{Answer}
 use Rattle.judgements.specs.declared.Answer.the-variants as Answer
 use Rattle.judgements.specs.declared.Deed.{Deed}
@@ -115,6 +115,24 @@ module _ (s : HandlerSight) (a : Args) where
   unfolding rowIn byRow byNumber board pick
   count-told h k is = rw (is .0, is .1)
 
+  version-told : (h k : ℕ) → (h ≡ 0) × (k ≡ version) → byHandler s a k h .answer ≡ Answer.Version
+  unfolding rowIn byRow byNumber architecture pick
+  version-told h k is = rw (is .0, is .1)
+
+  -- a question about an identifier: 0 where its key is in the list, else -1
+  feature-told : (h k : ℕ) → (h ≡ 0) × (k ≡ features) → byHandler s a k h .answer ≡ affirmed (oneOf (asked a) (0x80000000 ∷ 0x80000001 ∷ [])) .answer
+  unfolding rowIn byRow byNumber architecture featuring pick
+  feature-told h k is = rw (is .0, is .1)
+
+  power-feature-told : (h k : ℕ) → (h ≡ 2) × (k ≡ powerFeatures) → s .caller .world ≡ normal
+      → byHandler s a k h .answer ≡ affirmed (oneOf (asked a) (0x84000000 ∷ 0x84000002 ∷ 0x84000003 ∷ 0xC4000003 ∷ 0x84000004 ∷ 0xC4000004 ∷ 0x8400000A ∷ 0x80000000 ∷ [])) .answer
+  unfolding rowIn byRow byNumber standard powerFeaturing sieve pick
+  power-feature-told h k is n = rw (is .0, is .1, n)
+
+  power-version-told : (h k : ℕ) → (h ≡ 2) × (k ≡ powerVersion) → s .caller .world ≡ normal → byHandler s a k h .answer ≡ Answer.PowerVersion
+  unfolding rowIn byRow byNumber standard versioning sieve pick
+  power-version-told h k is n = rw (is .0, is .1, n)
+
   -- ---- core power
   start-decided : (h k : ℕ) → (h ≡ 2) × ((k ≡ coreStart) ⊎ (k ≡ coreStartWide)) → Decided Answer.Done (λ (d : Deed). d ≡ Start (a .x1) (a .x2) (a .x3)) (byHandler s a k h)
   unfolding rowIn byRow byNumber standard starting pick
@@ -188,6 +206,22 @@ module _ (s : Sight) (xs : List ℕ) where
     -- How many cores are ON is told to whoever asks.
     pub asked-count : Reached s xs (λ h. (h ≡ 1) × (key xs ≡ countOn)) → judged s xs .answer ≡ Answer.Count (onCount (s .inner .powers))
     asked-count r = ap (λ (j : Judged). j .answer) (found-at r) ∙ count-told (s .inner) args (r .number) (key xs) (r .so)
+
+    -- So is the version.
+    pub asked-version : Reached s xs (λ h. (h ≡ 0) × (key xs ≡ version)) → judged s xs .answer ≡ Answer.Version
+    asked-version r = ap (λ (j : Judged). j .answer) (found-at r) ∙ version-told (s .inner) args (r .number) (key xs) (r .so)
+
+    -- and to Normal that of core power.
+    pub asked-power-version : s .inner .caller .world ≡ normal → Reached s xs (λ h. (h ≡ 2) × (key xs ≡ powerVersion)) → judged s xs .answer ≡ Answer.PowerVersion
+    asked-power-version n r = ap (λ (j : Judged). j .answer) (found-at r) ∙ power-version-told (s .inner) args (r .number) (key xs) (r .so) n
+
+    -- Whether a call is known is told by these two lists.
+    pub asked-features : Reached s xs (λ h. (h ≡ 0) × (key xs ≡ features)) → judged s xs .answer ≡ affirmed (oneOf (asked args) (0x80000000 ∷ 0x80000001 ∷ [])) .answer
+    asked-features r = ap (λ (j : Judged). j .answer) (found-at r) ∙ feature-told (s .inner) args (r .number) (key xs) (r .so)
+
+    pub asked-power-features : s .inner .caller .world ≡ normal → Reached s xs (λ h. (h ≡ 2) × (key xs ≡ powerFeatures))
+        → judged s xs .answer ≡ affirmed (oneOf (asked args) (0x84000000 ∷ 0x84000002 ∷ 0x84000003 ∷ 0xC4000003 ∷ 0x84000004 ∷ 0xC4000004 ∷ 0x8400000A ∷ 0x80000000 ∷ [])) .answer
+    asked-power-features n r = ap (λ (j : Judged). j .answer) (found-at r) ∙ power-feature-told (s .inner) args (r .number) (key xs) (r .so) n
 
     -- What Normal asks for of a core is done: that it goes OFF,
     pub asked-off : s .inner .caller .world ≡ normal → Reached s xs (λ h. (h ≡ 2) × (key xs ≡ coreOff)) → judged s xs .deed ≡ GoOff

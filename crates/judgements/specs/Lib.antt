@@ -5,3 +5,4 @@ pub mod Grounds
 pub mod Asked
 pub mod Decided
 pub mod Granules
+pub mod Hint

@@ -40,8 +40,8 @@ go-off-requires c κs = search needs
 enum-known-d-5 : tie.Need-enum-known-d-5
 enum-known-d-5 c = search needs
 
-save-requires : tie.Need-save-requires
-save-requires c κs = search needs
+receive-requires : tie.Need-receive-requires
+receive-requires c κs = search needs
 
 hand-over-requires : tie.Need-hand-over-requires
 hand-over-requires c κs = search needs
@@ -95,7 +95,7 @@ do-deed-spec =
     enum-told-2
     go-off-requires
     enum-known-d-5
-    save-requires
+    receive-requires
     hand-over-requires
     enum-told-3
     give-back-requires

@@ -1,4 +1,4 @@
--- Each branch is a case of the test on bits 23 to 16.
+-- Each branch is a case of the test on bits 23 to 17.
 use Rattle.rules.specs.Tests.{choices}
 use Rattle.identifiers.specs.Identifier.{admitted}
 use Rattle.identifiers.proofs.Parts.admitted.Statement.{statement}
