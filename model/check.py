@@ -131,8 +131,9 @@ class Machine:
             results = self.judge(core, caller, x)
         except Refusal as refused:
             results = [refused.args[0]]
+        width = 64 if x[0] >> 30 & 1 else 32
         for place, value in enumerate(results):
-            core.numbers[caller][place] = value % 2**64
+            core.numbers[caller][place] = value if value >= 0 else 2**width + value
         world = core.world if core.power == ON else 0xFF
         return "a1%02x%02x" % (number, world) + "".join("%016x" % v for v in core.now()[:4])
 

@@ -379,8 +379,10 @@ static void call(unsigned number)
     default:
         break;
     }
-    if (result != UNWRITTEN)
-        x[0] = (uint64_t)result;
+    if (result == UNWRITTEN)
+        return;
+    bool short_refusal = result < 0 && (id >> 30 & 1) == 0;
+    x[0] = short_refusal ? (uint32_t)result : (uint64_t)result;
 }
 
 // ---- answers ----

@@ -42,6 +42,7 @@ def calls():
     s.call("N0", "R", 0xC4000150)
     realm(s)
     two_cores(s)
+    widths(s)
     every_core(s)
     return s
 
@@ -292,6 +293,34 @@ def two_cores(s):
     s.call("S1", "N", 0xF2000000)
     s.call("R2", "N", 0xC400018F)
     s.call("S0", "N", 0xF2000000)
+
+
+def widths(s):
+    s.part(
+        "a refusal has the width of the calling identifier, by its bit 30: not that of the upper half of x0, nor that of an identifier that is asked about;"
+        " what a finisher returns is untouched"
+    )
+    s.call("N0", -2, 0x84000004, 0, 1)
+    s.call("N0", -2, 0xC4000004, 0, 1)
+    s.call("N0", -2, JUNK + 0x84000004, 0, 1)
+    s.call("N0", -2, TOP - (1 << 32) + 0x84010004, 0, 1)
+    s.call("N0", -1, 0)
+    s.call("N0", -1, TOP - (1 << 32))
+    s.call("N0", -1, 0xF2000000)
+    s.call("N0", -1, 0x80000001, 0xC4000003)
+    s.call("N0", -1, 0x8400000A, 0xC4000000)
+    s.call("N0", -1, 0x84020000)
+    s.call("N0", -1, 0xC4020003)
+    s.call("N0", -1, 0x86000000)
+    s.call("N0", -1, 0xC6000000)
+    s.call("N0", -9, 0x84000003, 1, B + 1)
+    s.call("N0", -9, 0xC4000003, 1, B + 1)
+    s.call("N0", "S", 0x32000000, 1, 2, 3)
+    s.call("S0", -1, 0xB2000000)
+    s.call("S0", -1, 0xF2000001)
+    s.call("S0", -1, 0x32000000)
+    s.call("S0", -1, 0x84000000)
+    s.call("S0", "N", 0xF2000000, TOP - 1, (1 << 32) - 1, TOP - 2, 0)
 
 
 def every_core(s):

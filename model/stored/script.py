@@ -68,5 +68,6 @@ class Script:
             world = WORLD[answer]
         else:
             results = answer if isinstance(answer, tuple) else (answer,)
-            x = [n % TOP for n in results] + x[len(results):]
+            end = TOP if x[0] >> 30 & 1 else 1 << 32  # a refusal has the width of the calling identifier
+            x = [n if n >= 0 else end + n for n in results] + x[len(results):]
         self.answers[-1] = "a1%02x%02x" % (core, world) + "".join("%016x" % n for n in x[:4])

@@ -1,7 +1,8 @@
 -- What an answer writes for its caller.
 use mathlib.Core.Bool.{Bool, true, false}
 use mathlib.Core.List.{List, [], _∷_}
-use Prim.Native.Nat.{ℕ, _-_}
+use Prim.Native.Nat.{ℕ, _-_, _^_}
+use Rattle.identifiers.specs.Identifier.{answerBits}
 use Rattle.identifiers.specs.declared.Parts.{Parts}
 use Rattle.rules.specs.Reasons.{minus}
 use Rattle.registers.specs.Registers.{saving}
@@ -9,9 +10,9 @@ use Rattle.judgements.specs.Judge.{calledBy}
 use Rattle.judgements.specs.declared.Answer.{Answer}
 use Rattle.judgements.specs.declared.Answer.the-variants.{Version, PowerVersion, Done, On, Off, Pending, Owns, Leads, Count, Silent, No}
 
--- -n, as a call of these parts has it written: in 64 bits, whatever its width
-abbrev pub negative : Parts → ℕ → ℕ
-negative p n = 18446744073709551616 - n
+-- -n, as a call of these parts has it written, in as many bits as its answers take
+unfoldable pub negative : Parts → ℕ → ℕ
+negative p n = 2 ^ answerBits p - n
 
 -- 1 or 0
 abbrev pub bit : Bool → ℕ

@@ -1,13 +1,14 @@
 -- How the code's branches meet the definitions of Answers, and what an answer leaves.
-use mathlib.Core.Path.{_≡_, refl, sym, _∙_}
+use mathlib.Core.Path.{_≡_, refl, sym, ap, _∙_}
 use mathlib.Core.Bool.{Bool, true, false}
 use mathlib.Core.List.{List, [], _∷_}
-use Prim.Native.Nat.{ℕ, zero, suc, _^_, _≤_, _<_}
+use Prim.Native.Nat.{ℕ, zero, suc, _+_, _-_, _^_, _≤_, _<_}
 use native.Mathlib.Omega.{arith}
 use lib.ListN.{length, getD}
 use Rattle.rules.specs.Sizes.{mostCores}
 use Rattle.rules.specs.Reasons.{minus, minus-at}
 use Rattle.rules.specs.declared.Reason.{Reason}
+use Rattle.identifiers.specs.Identifier.{answerBits, answer-room, bits-short, bits-long}
 use Rattle.identifiers.specs.declared.Parts.{Parts}
 use Rattle.registers.specs.Registers.{Whole, saved, saving, saving-none, saving-whole, saving-at, saving-past, saving-other}
 use Rattle.judgements.specs.Judge.{calledBy}
@@ -29,12 +30,25 @@ module _ (p : Parts) (a : Answer) (r r′ : List ℕ) (c w : ℕ) where
   pub writes-no : (q : Reason) (n : ℕ) → a ≡ No q → n ≡ negative p (minus q) → r′ ≡ saving r c w (n ∷ []) → r′ ≡ saving r c w (written p a)
   writes-no q n e f h = rw (e, ← f) h
 
+-- a refusal is counted down from the end of its width, and neither step leaves 64 bits
+module _ (p : Parts) (q : Reason) (high n : ℕ) (e : high ≡ 2 ^ answerBits p - 1) (f : n ≡ minus q) where
+  pub small-enough : (n ≤ high) × (high - n + 1 < 2 ^ 64)
+  small-enough = let k = minus-at q in let w = answer-room p in (omega (arith, k .1, w .0), omega (arith, k .0, w .0, w .1))
+
+  pub negates : high - n + 1 ≡ negative p (minus q)
+  unfolding negative
+  negates = let k = minus-at q in let w = answer-room p in rw (e, f) (omega (arith, k .0, k .1, w .0))
+
 pub ruleset answers = (writes-owns, writes-nothing, writes-no, writes)
 
 pub answered : (r q r′ xs : List ℕ) (c w : ℕ) (p : Parts) (a : Answer) → q ≡ saving r c w xs → r′ ≡ saving q c w (written p a) → r′ ≡ answeredBy p r c w xs a
 answered r q r′ xs c w p a e h = rw (← e) h
 
 -- ---- what is written goes by the answer and the width alone
+negative-width : (p q : Parts) → p .wide ≡ q .wide → (n : ℕ) → negative p n ≡ negative q n
+unfolding negative answerBits
+negative-width p q e n = rw e
+
 pub written-width : (p q : Parts) → p .wide ≡ q .wide → (a : Answer) → written p a ≡ written q a
 written-width p q e Version = refl
 written-width p q e PowerVersion = refl
@@ -46,7 +60,7 @@ written-width p q e (Owns is) = refl
 written-width p q e (Leads phys attr) = refl
 written-width p q e (Count n) = refl
 written-width p q e Silent = refl
-written-width p q e (No r) = refl
+written-width p q e (No r) = ap (λ (n : ℕ). n ∷ []) (negative-width p q e (minus r))
 
 -- ---- what an answer leaves
 pub written-few : (p : Parts) (a : Answer) → length (written p a) ≤ 3
@@ -76,9 +90,23 @@ written-one p (Count k) n = omega arith
 written-one p Silent n = omega arith
 written-one p (No r) n = omega arith
 
--- No refusal is written as 0.
+-- ---- a refusal in plain numbers: 2^32 - n of a 32-bit call, 2^64 - n of a 64-bit one
+pub negative-short : (p : Parts) (n : ℕ) → p .wide ≡ 0 → negative p n ≡ 4294967296 - n
+unfolding negative
+negative-short p n e = rw (bits-short p e)
+
+pub negative-long : (p : Parts) (n : ℕ) → (p .wide ≡ 0 → ⊥) → negative p n ≡ 18446744073709551616 - n
+unfolding negative
+negative-long p n d = rw (bits-long p d)
+
+-- No refusal is written as 0, and each fits 64 bits.
 pub negative-some : (p : Parts) (r : Reason) → negative p (minus r) ≡ 0 → ⊥
-negative-some p r e = let k = minus-at r in omega (arith, k .0, k .1)
+unfolding negative
+negative-some p r e = let k = minus-at r in let w = answer-room p in omega (arith, k .0, k .1, w .0)
+
+negative-fits : (p : Parts) (r : Reason) → negative p (minus r) < 2 ^ 64
+unfolding negative
+negative-fits p r = let k = minus-at r in let w = answer-room p in omega (arith, k .0, w .0, w .1)
 
 -- ---- what is written fits 64 bits, where an address, its attributes and a count do
 one-fits : (n j : ℕ) → n < 2 ^ 64 → getD (n ∷ []) j 0 < 2 ^ 64
@@ -103,7 +131,7 @@ written-fits p (Owns false) l c j = one-fits 0 j (omega arith)
 written-fits p (Leads phys attr) l c j = let k = l phys attr refl in three-fit 0 phys attr j (omega arith) (k .0) (k .1)
 written-fits p (Count n) l c j = one-fits n j (c n refl)
 written-fits p Silent l c j = omega arith
-written-fits p (No r) l c j = one-fits (negative p (minus r)) j (omega (arith, minus-at r .0))
+written-fits p (No r) l c j = one-fits (negative p (minus r)) j (negative-fits p r)
 
 module _ (r : List ℕ) (core caller : ℕ) (xs : List ℕ) (a : Answer) where
   pub answered-whole : Whole r → Whole (answeredIn r core caller xs a)

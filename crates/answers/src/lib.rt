@@ -9,11 +9,11 @@ use registers::Saved;
 use rules::Reason;
 use rules::minus_of;
 
-// A refusal as a call of these parts has it written: in 64 bits, whatever its width.
+// A refusal as a call of these parts has it written.
 fn negative_of(p: Parts, r: Reason) -> u64
     ensures { λ n. ⌜ n ≡ negative p (minus r) ⌝ }
 {
-    0xFFFF_FFFF_FFFF_FFFF - minus_of(r) + 1
+    p.highest() - minus_of(r) + 1
 }
 
 // A truth value as the paper's 1 or 0.

@@ -236,6 +236,9 @@ module _ (m : Machine) (core : ℕ) (xs : List ℕ) where
       pub unserved : handler (m .ledger) (calledBy xs .fast) (calledBy xs .owner) ≡ Nobody → last ≡ denied 1
       -- A call that is refused for a reason leaves the machine of that refusal.
       pub refused : (r : Reason) → answerIn (stateOf m) core xs ≡ No r → last ≡ denied (minus r)
+      -- That refusal stands in x0 as 2^32 - n where bit 30 of the frame's x0 is clear, and as 2^64 - n where it is set.
+      pub refused-short : (n : ℕ) → bits 30 30 (getD xs 0 0) ≡ 0 → negative (calledBy xs) n ≡ 4294967296 - n
+      pub refused-long : (n : ℕ) → bits 30 30 (getD xs 0 0) ≡ 1 → negative (calledBy xs) n ≡ 18446744073709551616 - n
       -- ---- what its caller finds
       -- The results that its answer lists, from x0 on; behind them the frame's numbers; its start address stays.
       pub results : (j : ℕ) → j < length (resultsIn (stateOf m) core xs) → x j ≡ getD (resultsIn (stateOf m) core xs) j 0

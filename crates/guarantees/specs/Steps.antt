@@ -33,7 +33,7 @@ use Rattle.judgements.specs.declared.Deed.{Deed}
 use Rattle.judgements.specs.declared.Deed.the-variants.{Nothing, Move, Map, Unmap, Start, GoOff, HandOver, Finish}
 use Rattle.judgements.specs.declared.Judged.{Judged}
 use Rattle.answers.specs.Answers.{written}
-use Rattle.answers.specs.Laws.{written-width}
+use Rattle.answers.specs.Laws.{written-width, negative-short, negative-long}
 use Rattle.calls.specs.Step.{State, sight, callerOf, startNumbers, arrivedIn}
 use Rattle.calls.specs.Effects as Effects
 use Rattle.calls.specs.Effects.{deedIn, answerIn, resultsIn, Receives, Carries, returned, returned-realm, returned-other}
@@ -115,6 +115,9 @@ module _ (xs : List ℕ) where
   unfolding parts identifierOf
   owner-low = let n = getD xs 0 0 in let e : bits 29 24 (n % 2 ^ 32) ≡ bits 29 24 n = omega arith in e
 
+  long : bits 30 30 (getD xs 0 0) ≡ 1 → calledBy xs .wide ≡ 0 → ⊥
+  long b z = let w = width-low in omega arith
+
   -- an argument as it is read
   half : (i : ℕ) → bits 30 30 (getD xs 0 0) ≡ 0 → argument (calledBy xs) (getD xs i 0) ≡ getD xs i 0 % 4294967296
   unfolding argument
@@ -122,7 +125,7 @@ module _ (xs : List ℕ) where
 
   full : (i : ℕ) → bits 30 30 (getD xs 0 0) ≡ 1 → argument (calledBy xs) (getD xs i 0) ≡ getD xs i 0
   unfolding argument
-  full i b = pick-no _ _ _ (ne-eqb _ 0 (λ (z : calledBy xs .wide ≡ 0). let w = width-low in omega arith))
+  full i b = pick-no _ _ _ (ne-eqb _ 0 (long b))
 
 -- a question that is affirmed, and one that is not
 affirms : (b : Bool) → b ≡ true → affirmed b .answer ≡ Answer.Done
@@ -261,6 +264,8 @@ module _ (m : Machine) (fit : Fit m) (e : Event) (core : ℕ) (is : e .0 ≡ Fra
         dispatched = λ ok. reaches s core xs (r .running core i .world) ok;
         unserved = λ n. refuses Reason.Unserved (nobody-answers n);
         refused = refuses;
+        refused-short = λ n b. negative-short (calledBy xs) n (width-low xs ∙ b);
+        refused-long = λ n b. negative-long (calledBy xs) n (long xs b);
         results = λ j h. rw numbers (Effects.own-results s core xs j whole i c h);
         unlisted = λ j h k. rw numbers (Effects.own-frame s core xs j whole i c (omega arith) (omega arith) h);
         start-stays = rw numbers (Effects.own-past s core xs 8 (omega arith) (omega arith));

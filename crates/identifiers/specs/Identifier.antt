@@ -1,11 +1,11 @@
 -- A call's identifier: the parts in its fields, and the identifier that parts make.
 use mathlib.Core.Path.{_≡_, sym, ap, _∙_}
 use mathlib.Core.Bool.{Bool, true, false, _&&_}
-use Prim.Native.Nat.{ℕ, _+_, _-_, _*_, _/_, _%_, _^_, _<_}
+use Prim.Native.Nat.{ℕ, _+_, _-_, _*_, _/_, _%_, _^_, _≤_, _<_}
 use native.Mathlib.Omega.{arith}
 use lib.Dec.{ltb, eqb}
 use borrow.Author.Tests.{lt-ltb, ltb-true, eq-eqb, ne-eqb}
-use Rattle.rules.specs.Choice.{pick, pick-yes, pick-no, either, left-true, right-true}
+use Rattle.rules.specs.Choice.{pick, pick-yes, pick-no, chosen, either, left-true, right-true}
 use Rattle.identifiers.specs.declared.Identifier.{Identifier}
 use Rattle.identifiers.specs.declared.Parts.{Parts}
 use Rattle.identifiers.specs.declared.Joined.{Joined}
@@ -61,6 +61,13 @@ admitted p = pick (eqb (p .fast) 1) (eqb (p .reserved) 0) true
 -- what a call of this width sees of a number
 unfoldable pub argument : Parts → ℕ → ℕ
 argument p x = pick (eqb (p .wide) 0) (low32 x) x
+
+-- how many bits a negative answer takes: by the width of the call, which for an identifier is its bit 30
+unfoldable pub answerBits : Parts → ℕ
+answerBits p = pick (eqb (p .wide) 0) 32 64
+
+unfoldable pub answerBitsOf : Identifier → ℕ
+answerBitsOf i = pick (eqb (bits 30 30 (i .0)) 0) 32 64
 
 -- ---- each part in range of its field
 pub record InRange (p : Parts) : Type 0 where
@@ -183,3 +190,25 @@ module _ (i : Identifier) where
   pub keys-other : (i .0 / 2 ^ 31 % 2 ≡ 1 → ⊥) → i .0 ≡ keyOf i
   unfolding keyOf
   keys-other d = sym (pick-no _ _ _ (ne-eqb _ _ d))
+
+-- ---- the width of answers
+module _ (p : Parts) where
+  pub bits-short : p .wide ≡ 0 → answerBits p ≡ 32
+  unfolding answerBits
+  bits-short e = pick-yes _ _ _ (eq-eqb _ _ e)
+
+  pub bits-long : (p .wide ≡ 0 → ⊥) → answerBits p ≡ 64
+  unfolding answerBits
+  bits-long d = pick-no _ _ _ (ne-eqb _ _ d)
+
+  -- the room that they leave
+  pub answer-room : (2 ^ 32 ≤ 2 ^ answerBits p) × (2 ^ answerBits p ≤ 2 ^ 64)
+  unfolding answerBits
+  answer-room = chosen (λ (n : ℕ). (2 ^ 32 ≤ 2 ^ n) × (2 ^ n ≤ 2 ^ 64)) (eqb (p .wide) 0) 32 64 (λ e. (omega arith, omega arith)) (λ e. (omega arith, omega arith))
+
+  -- how the code meets these
+  pub highest-short : p .wide ≤ 0 → 2 ^ 32 - 1 ≡ 2 ^ answerBits p - 1
+  highest-short h = rw (bits-short (omega arith))
+
+  pub highest-long : 0 < p .wide → 2 ^ 64 - 1 ≡ 2 ^ answerBits p - 1
+  highest-long h = rw (bits-long (λ (e : p .wide ≡ 0). omega arith))

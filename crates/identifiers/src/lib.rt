@@ -1,6 +1,7 @@
 // The identifier of a call: its parts, and the identifier that parts make.
 ghost use mathlib.Core.Path.{_≡_};
-ghost use Rattle.identifiers.specs.Identifier.{identifierOf, parts, fitting, InRange, wholeOf, joined, keyOf, admitted, argument};
+ghost use Rattle.identifiers.specs.Identifier.{identifierOf, parts, fitting, InRange, wholeOf, joined, keyOf, admitted, argument, answerBits, answerBitsOf};
+ghost use Prim.Native.Nat.{_-_, _^_};
 
 // One past the largest number of 32 bits.
 const LIMIT: u64 = 1 << 32;
@@ -63,9 +64,9 @@ impl Identifier {
         Identifier((x0 % LIMIT) as u32)
     }
 
-    // What stands in each field.
+    // What stands in each field. Its bit 30 says how many bits a negative answer takes.
     pub fn split(self) -> Parts
-        ensures { λ r. ⌜ r ≡ parts self ⌝ }
+        ensures { λ r. ⌜ (r ≡ parts self) × (answerBits r ≡ answerBitsOf self) ⌝ }
     {
         let n = self.0;
         Parts {
@@ -147,6 +148,16 @@ impl Parts {
             + (self.reserved << Identifier::RESERVED_AT);
         let low = (self.hint << Identifier::HINT_AT) + (self.function << Identifier::FUNCTION_AT);
         Identifier(high + middle + low)
+    }
+
+    // The highest number in as many bits as a negative answer takes.
+    pub fn highest(self) -> u64
+        ensures { λ r. ⌜ r ≡ 2 ^ answerBits self - 1 ⌝ }
+    {
+        if 0 < self.wide {
+            return 0xFFFF_FFFF_FFFF_FFFF;
+        }
+        0xFFFF_FFFF
     }
 
     // What the call reads of an argument.
