@@ -1,28 +1,16 @@
--- How many of n numbers from a on pass a test, and the mask that has a one for each of them that does, the lowest number lowest.
+-- The mask that has a one for each of n numbers from a on that passes a test, the lowest number lowest, and how many those are.
 use mathlib.Core.Path.{_≡_, refl, ap, _∙_}
 use mathlib.Core.Bool.{Bool, true, false}
 use Prim.Native.Nat.{ℕ, zero, suc, _+_, _*_, _/_, _%_, _^_, _≤_, _<_}
 use native.Mathlib.Nat.{pow-suc}
 use native.Mathlib.Omega.{arith}
 use lib.Count.{ones, ones-step}
-
--- a test as a binary digit
-unfoldable pub bit : Bool → ℕ
-bit true = 1
-bit false = 0
-
-unfoldable pub count : (ℕ → Bool) → ℕ → ℕ → ℕ
-count p a zero = 0
-count p a (suc n) = bit (p a) + count p (suc a) n
+unfoldable pub use Rattle.tools.specs.Count.{bit, count}
+pub use Rattle.tools.specs.Count.{bit-le, count-le}
 
 unfoldable pub mask : (ℕ → Bool) → ℕ → ℕ → ℕ
 mask p a zero = 0
 mask p a (suc n) = bit (p a) + 2 * mask p (suc a) n
-
-pub bit-le : (b : Bool) → bit b ≤ 1
-unfolding bit
-bit-le true = omega arith
-bit-le false = omega arith
 
 pub bit-yes : (b : Bool) → b ≡ true → 1 ≡ bit b
 unfolding bit
@@ -52,8 +40,3 @@ module _ (p : ℕ → Bool) where
   unfolding mask
   mask-fits a zero = omega arith
   mask-fits a (suc n) = rw (pow-suc 2 n) (omega (arith, bit-le (p a), mask-fits (suc a) n))
-
-  pub count-le : (a n : ℕ) → count p a n ≤ n
-  unfolding count
-  count-le a zero = omega arith
-  count-le a (suc n) = omega (arith, bit-le (p a), count-le (suc a) n)

@@ -1,3 +1,4 @@
 pub mod Search
+pub mod Count
 pub mod Store
 pub mod Laid

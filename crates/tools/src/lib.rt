@@ -1,5 +1,5 @@
-// Tools that stores, lines and packages share: searches, tables that are read and written in bounds, and bytes laid one behind
-// another, in specs/; and a byte read as a number.
+// Tools that stores, lines and packages share: searches and counts, tables that are read and written in bounds, and bytes laid
+// one behind another, in specs/; and a byte read as a number.
 ghost use mathlib.Core.Path.{_≡_};
 
 // The number in a byte.
