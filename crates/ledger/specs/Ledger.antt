@@ -2,10 +2,10 @@
 use mathlib.Core.Path.{_≡_, refl, sym, ap, _∙_}
 use mathlib.Core.Bool.{Bool, true, false, _&&_}
 use mathlib.Core.List.{List, [], _∷_}
-use Prim.Native.Nat.{ℕ, _+_, _-_, _≤_}
+use Prim.Native.Nat.{ℕ, _+_, _-_, _≤_, _<_}
 use native.Mathlib.Omega.{arith}
-use lib.Dec.{ltb, leb, eqb}
-use borrow.Author.Tests.{ltb-true, ltb-false, leb-true, eqb-true, le-leb, eq-eqb}
+use lib.Dec.{ltb}
+use borrow.Author.Tests.{ltb-true, ltb-false}
 use Rattle.rules.specs.Sizes.{lastOwner, lastKind, lastHandler}
 use Rattle.rules.specs.Choice.{pick, chosen, pick-yes, pick-no, either, yes-or-no, both-true, left-true, right-true}
 use Rattle.rules.specs.Tests.{refuses, sieve}
@@ -14,16 +14,12 @@ use Rattle.ledger.specs.declared.Lookup.{Lookup}
 use Rattle.ledger.specs.declared.Lookup.the-variants.{Handler, Nobody}
 use Rattle.rules.specs.declared.Entered.{Entered}
 use Rattle.rules.specs.declared.Entered.the-variants.{Accepted, OutOfRange, Taken}
-use Rattle.ledger.specs.Pairs.{assigned, record-is, recorded-in, recorded-out, recorded-proper}
-pub use Rattle.ledger.specs.Pairs.{Proper, empty, handler, recorded, empty-proper, empty-handler}
-
--- the pair has a handler
-abbrev pub has : Lookup → Bool
-has (Handler number) = true
-has Nobody = false
-
-unfoldable pub taken : List ℕ → ℕ → ℕ → Bool
-taken t kind owner = has (handler t kind owner)
+use Rattle.ledger.specs.Places.{named, naming, recorded-used, recorded-in, recorded-out}
+use Rattle.ledger.specs.Room.{not-taken, taken-not, room, recorded-proper}
+pub use Rattle.ledger.specs.Places.{empty, handler, used, recorded, empty-used, empty-handler, rest-unread, rest-uncounted}
+pub use Rattle.ledger.specs.Room.{Proper, empty-proper}
+unfoldable pub use Rattle.ledger.specs.Places.{names}
+unfoldable pub use Rattle.ledger.specs.Room.{taken}
 
 -- refused for a number outside its range, and then for a pair that has a handler already; a refused entry changes nothing
 unfoldable pub entered : List ℕ → ℕ → ℕ → ℕ → ℕ → Entered × List ℕ
@@ -42,10 +38,6 @@ isAccepted Accepted = true
 isAccepted OutOfRange = false
 isAccepted Taken = false
 
--- the pair of type k and owner o is one of those that an entry names
-unfoldable pub names : ℕ → ℕ → ℕ → ℕ → ℕ → Bool
-names first last kind k o = eqb k kind && (leb first o && leb o last)
-
 -- ---- for this crate's code
 module _ (t : List ℕ) (kind owner : ℕ) (found : Lookup) (is : found ≡ handler t kind owner) where
   pub is-taken : (number : ℕ) → found ≡ Handler number → true ≡ taken t kind owner
@@ -56,9 +48,9 @@ module _ (t : List ℕ) (kind owner : ℕ) (found : Lookup) (is : found ≡ hand
   unfolding taken
   is-free e = rw (← is, e)
 
-pub accepts : (t u : List ℕ) (first last kind number : ℕ) → u ≡ assigned t kind first (last - first + 1) number
+pub accepts : (t u : List ℕ) (first last kind number : ℕ) → u ≡ recorded t first last kind number
     → _≡_ {A = Entered × List ℕ} (Accepted, u) (Accepted, recorded t first last kind number)
-accepts t u first last kind number e = rw (record-is t u first last kind number e)
+accepts t u first last kind number e = rw e
 
 -- ---- an entry by its three outcomes
 -- every number is in its range
@@ -71,29 +63,6 @@ pub record Ranged (first last kind number : ℕ) : Type 0 where
 -- none of the pairs has a handler
 abbrev pub Free : List ℕ → ℕ → ℕ → ℕ → Type 0
 Free t first last kind = (owner : ℕ) → first ≤ owner → owner ≤ last → handler t kind owner ≡ Nobody
-
-not-taken : (t : List ℕ) (kind owner : ℕ) → handler t kind owner ≡ Nobody → taken t kind owner ≡ false
-unfolding taken
-not-taken t kind owner e = rw e
-
-taken-not : (t : List ℕ) (kind owner : ℕ) → taken t kind owner ≡ false → handler t kind owner ≡ Nobody
-unfolding taken
-taken-not t kind owner e = nobody (handler t kind owner) e
-  where
-    nobody : (found : Lookup) → has found ≡ false → found ≡ Nobody
-    nobody Nobody e = refl
-    nobody (Handler number) e = absurd (yes-or-no true refl e)
-
-module _ (first last kind k o : ℕ) where
-  named : names first last kind k o ≡ true → (k ≡ kind) × (first ≤ o) × (o ≤ last)
-  unfolding names
-  named e =
-      let f = right-true (eqb k kind) _ e in
-      (eqb-true _ _ (left-true _ _ e), leb-true _ _ (left-true _ _ f), leb-true _ _ (right-true (leb first o) _ f))
-
-  naming : k ≡ kind → first ≤ o → o ≤ last → names first last kind k o ≡ true
-  unfolding names
-  naming e h l = both-true _ _ (eq-eqb _ _ e) (both-true _ _ (le-leb _ _ h) (le-leb _ _ l))
 
 is-accepted : (e : Entered) → isAccepted e ≡ true → e ≡ Accepted
 is-accepted Accepted h = refl
@@ -114,9 +83,9 @@ module _ (t : List ℕ) (first last kind number : ℕ) where
         (λ c. chosen P (ltb lastHandler number) _ _ (λ e. outside (λ r. omega (arith, ltb-true lastHandler number e)))
         (λ d.
         let r : Ranged first last kind number = record { order = ltb-false last first a; owners = ltb-false lastOwner last b; kinds = ltb-false lastKind kind c; handlers = ltb-false lastHandler number d } in
-        chosen P (any (taken t kind) first (last - first + 1)) _ _
-        (λ e. clash r (λ f. yes-or-no _ e (any-if-not (taken t kind) first (last - first + 1) (λ o h l. not-taken t kind o (f o h (omega arith))))))
-        (λ e. done r (λ o h l. taken-not t kind o (any-not (taken t kind) first (last - first + 1) o e h (omega arith))))))))
+        chosen P (any (taken t kind) first _) _ _
+        (λ e. clash r (λ f. yes-or-no _ e (any-if-not (taken t kind) first _ (λ o h l. not-taken t kind o (f o h (omega arith))))))
+        (λ e. done r (λ o h l. taken-not t kind o (any-not (taken t kind) first _ o e h (omega arith))))))))
 
   pub accepted-where : Ranged first last kind number → Free t first last kind → entered t first last kind number ≡ (Accepted, recorded t first last kind number)
   accepted-where r f =
@@ -136,18 +105,23 @@ module _ (t : List ℕ) (first last kind number : ℕ) where
   pub refused-same : (entered t first last kind number .0 ≡ Accepted → ⊥) → entered t first last kind number .1 ≡ t
   refused-same = entered-by (λ (o : Entered × List ℕ). (o .0 ≡ Accepted → ⊥) → o .1 ≡ t) (λ m n. refl) (λ r f n. refl) (λ r f n. absurd (n refl))
 
-  -- an accepted one gives its handler to the pairs that it covers
+  -- an accepted one finds a free place
+  pub has-room : Proper t → Granted → used t < 128
+  has-room w g = room t kind first w (g .ranged .kinds) (omega (arith, g .ranged .order, g .ranged .owners)) (g .free first (omega arith) (g .ranged .order))
+
+  -- and gives its handler to the pairs that it covers
   pub covered : Proper t → entered t first last kind number .0 ≡ Accepted → (owner : ℕ) → first ≤ owner → owner ≤ last
       → handler (entered t first last kind number .1) kind owner ≡ Handler number
-  covered w e =
+  covered w e owner h l =
       let g = granted e in
-      rw (accepted-where (g .ranged) (g .free)) (recorded-in t first last kind number w (g .ranged .owners) (g .ranged .kinds) (g .ranged .handlers))
+      rw (accepted-where (g .ranged) (g .free))
+      (recorded-in t first last kind number (w .sized) (has-room w g) (g .ranged .order) (g .ranged .owners) (g .ranged .kinds) (g .ranged .handlers) owner h l (g .free owner h l))
 
   -- and every other pair keeps what it had
   pub uncovered : (k o : ℕ) → (k ≡ kind → first ≤ o → o ≤ last → ⊥) → handler (entered t first last kind number .1) k o ≡ handler t k o
   uncovered k o apart =
       entered-by (λ (r : Entered × List ℕ). handler (r .1) k o ≡ handler t k o) (λ m. refl) (λ r f. refl)
-      (λ r f. recorded-out t first last kind number (r .order) k o apart)
+      (λ r f. recorded-out t first last kind number (r .order) (r .owners) (r .kinds) (r .handlers) k o apart)
 
   -- both in one: the handler of any pair after any attempt at an entry
   pub handler-after : Proper t → (k o : ℕ) → handler (entered t first last kind number .1) k o
@@ -168,5 +142,12 @@ module _ (t : List ℕ) (first last kind number : ℕ) where
       let p = named first last kind k o (right-true (isAccepted (entered t first last kind number .0)) _ y) in
       rw (p .0) (granted (is-accepted _ (left-true _ _ y)) .free o (p .1) (p .2))
 
+  -- each accepted entry takes a place
+  pub used-after : Proper t → used (entered t first last kind number .1) ≡ pick (isAccepted (entered t first last kind number .0)) (used t + 1) (used t)
+  used-after w =
+      entered-by (λ (o : Entered × List ℕ). used (o .1) ≡ pick (isAccepted (o .0)) (used t + 1) (used t)) (λ m. sym (pick-no false _ _ refl)) (λ r f. sym (pick-no false _ _ refl))
+      (λ r f. recorded-used t first last kind number (w .sized) (has-room w (record { ranged = r; free = f })) ∙ sym (pick-yes true _ _ refl))
+
   pub entered-proper : Proper t → Proper (entered t first last kind number .1)
-  entered-proper w = entered-by (λ (o : Entered × List ℕ). Proper (o .1)) (λ m. w) (λ r f. w) (λ r f. recorded-proper t first last kind number w)
+  entered-proper w = entered-by (λ (o : Entered × List ℕ). Proper (o .1)) (λ m. w) (λ r f. w)
+      (λ r f. recorded-proper t first last kind number w (r .order) (r .owners) (r .kinds) (r .handlers) (f first (omega arith) (r .order)))

@@ -1,4 +1,6 @@
-pub mod Pairs
+pub mod Places
+pub mod Room
 pub mod Ledger
 pub mod Only
 pub mod OneHandler
+pub mod Spare

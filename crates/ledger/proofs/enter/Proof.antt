@@ -31,8 +31,8 @@ returns-5 : tie.Need-returns-5
 unfolding entered
 returns-5 c = search judgements depth 20
 
-assign-requires : tie.Need-assign-requires
-assign-requires c κs = search needs
+record-requires : tie.Need-record-requires
+record-requires c κs = search needs
 
 returns-6 : tie.Need-returns-6
 unfolding entered
@@ -49,5 +49,5 @@ enter-spec =
     add-count
     any-taken-requires
     returns-5
-    assign-requires
+    record-requires
     returns-6)

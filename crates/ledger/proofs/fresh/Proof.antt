@@ -1,5 +1,5 @@
--- All bytes are 0, as the definition has them.
-use Rattle.ledger.specs.Pairs.{blank}
+-- All places are 0, as the definition has them.
+use Rattle.ledger.specs.Places.{blank}
 use Rattle.ledger.proofs.fresh.Statement.{statement}
 use Rattle.ledger.proofs.fresh.Tie as tie
 
