@@ -1,13 +1,14 @@
-// Tries entries on one ledger and looks pairs up in it, a line for each.
+// Tries entries on two ledgers and looks pairs up in them, a line for each.
 use ledger::Ledger;
 use ledger::Lookup;
 use libc::STDOUT_FILENO;
 use rules::Entered;
 
-// An entry of first and last owner, type and handler, or a lookup of type and owner.
+// An entry of first and last owner, type and handler; a lookup of type and owner; or how many places are in use.
 enum Step {
     Enter(u64, u64, u64, u64),
     Look(u32, u32),
+    Count,
 }
 
 fn say(text: &[u8]) {
@@ -45,8 +46,14 @@ fn look(t: &Ledger, kind: u32, owner: u32) {
     say(b"\n");
 }
 
-// The steps, in their order.
-const STEPS: [Step; 26] = [
+fn count(t: &Ledger) {
+    number(b"places in use: ", ledger::used(t));
+    say(b"\n");
+}
+
+// The steps on the first ledger, in their order.
+const STEPS: [Step; 28] = [
+    Step::Count,
     Step::Look(1, 4),
     // entries that name the same owners
     Step::Enter(4, 6, 1, 2),
@@ -79,19 +86,40 @@ const STEPS: [Step; 26] = [
     Step::Look(1, 63),
     Step::Look(1, 64),
     Step::Look(2, 4),
+    // 4 to 6, 7 to 8 and 60 to 63, and the yielding ones
+    Step::Count,
+];
+
+// The steps on the second: all owners of each type in one entry.
+const WHOLE: [Step; 9] = [
+    Step::Enter(0, 63, 1, 1),
+    Step::Enter(0, 63, 0, 2),
+    Step::Look(1, 0),
+    Step::Look(1, 63),
+    Step::Look(0, 0),
+    Step::Look(0, 63),
+    Step::Enter(63, 63, 1, 3),
+    Step::Enter(0, 0, 0, 0),
+    Step::Count,
 ];
 
 fn play(t: &mut Ledger, step: Step) {
     match step {
         Step::Enter(first, last, kind, handler) => enter(t, first, last, kind, handler),
         Step::Look(kind, owner) => look(t, kind, owner),
+        Step::Count => count(t),
     }
 }
 
 fn main() {
     let mut t = ledger::fresh();
     let steps = STEPS;
-    for i in 0..26 {
+    for i in 0..28 {
         play(&mut t, steps[i]);
+    }
+    let mut u = ledger::fresh();
+    let whole = WHOLE;
+    for j in 0..9 {
+        play(&mut u, whole[j]);
     }
 }
