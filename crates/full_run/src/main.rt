@@ -1,0 +1,4 @@
+// The frame program on a stored run: a full ledger.
+fn main() {
+    console::run();
+}
