@@ -8,13 +8,13 @@ use Rattle.rules.specs.Sizes.{root, secure, normal, realm, lastWorld, worlds}
 use Rattle.rules.specs.Choice.{pick, pick-no}
 use Rattle.tools.specs.Search.{all, all-at}
 
--- the mark that nobody has: that of places past the last page
-abbrev pub nobody : ℕ
-nobody = 0
+-- the mark of no page: that of the places past the last
+abbrev pub nobodys : ℕ
+nobodys = 0
 
 -- Secure 8, Normal 9, Root A, Realm B
 unfoldable pub markOf : ℕ → ℕ
-markOf w = pick (eqb w secure) 8 (pick (eqb w normal) 9 (pick (eqb w root) 10 (pick (eqb w realm) 11 nobody)))
+markOf w = pick (eqb w secure) 8 (pick (eqb w normal) 9 (pick (eqb w root) 10 (pick (eqb w realm) 11 nobodys)))
 
 -- the owner with the mark; a number that is no world's where there is none
 unfoldable pub ownerOf : ℕ → ℕ

@@ -9,6 +9,18 @@ use rules::ROOT;
 use rules::SECURE;
 use rules::WORLDS;
 
+// The mark of each owner's pages.
+const SECURES: u64 = 0x8;
+
+const NORMALS: u64 = 0x9;
+
+const ROOTS: u64 = 0xA;
+
+const REALMS: u64 = 0xB;
+
+// The mark of no page.
+const NOBODYS: u64 = 0;
+
 // What a mark at the place of a page counts.
 fn unit_of(page: u64) -> u64
     ensures { λ r. ⌜ r ≡ 2 ^ (4 * (page % 16)) ⌝ }
@@ -37,34 +49,34 @@ pub fn mark_of(owner: u64) -> u64
     ensures { λ r. ⌜ r ≡ markOf owner ⌝ }
 {
     if owner == SECURE {
-        return 8;
+        return SECURES;
     }
     if owner == NORMAL {
-        return 9;
+        return NORMALS;
     }
     if owner == ROOT {
-        return 10;
+        return ROOTS;
     }
     if owner == REALM {
-        return 11;
+        return REALMS;
     }
-    0
+    NOBODYS
 }
 
 // The owner with the mark: one past the last world where the mark is nobody's.
 pub fn owner_of(mark: u64) -> u64
     ensures { λ r. ⌜ r ≡ ownerOf mark ⌝ }
 {
-    if mark == 8 {
+    if mark == SECURES {
         return SECURE;
     }
-    if mark == 9 {
+    if mark == NORMALS {
         return NORMAL;
     }
-    if mark == 10 {
+    if mark == ROOTS {
         return ROOT;
     }
-    if mark == 11 {
+    if mark == REALMS {
         return REALM;
     }
     WORLDS
