@@ -10,8 +10,8 @@ use borrow.Author.Tests.{ltb-true, ltb-false, leb-true, eqb-true, lt-ltb, eq-eqb
 use Rattle.rules.specs.Sizes.{mostPages}
 use Rattle.rules.specs.Choice.{pick, picked, passed, either, chosen, both-true, left-true, right-true, left-false, right-false, yes-or-no}
 use Rattle.tools.specs.Search.{all, all-at, all-if, all-stops}
-use Rattle.marks.specs.Digits.{digit, alike, alike-fits, alike-digit, alike-only, alike-is}
-use Rattle.granules.specs.Table.{mark, marked, WholeMarks, same-marks, number-mark, number-fits, number-whole, number-inside, number-outside}
+use Rattle.marks.specs.Digits.{digit, put, alike, alike-fits, alike-digit, alike-only, alike-is}
+use Rattle.granules.specs.Table.{mark, WholeMarks, mark-in, marked-in, same-marks, number-mark, number-fits, number-whole, number-inside, number-outside}
 use Rattle.granules.specs.Runs.{bears, written, bears-past, written-whole, written-same, written-other}
 
 -- how many pages are taken at once
@@ -112,23 +112,32 @@ module _ (t : List ℕ) (m page : ℕ) (inside : page < mostPages) where
         (λ n. let d : page ≤ q → q < page + 16 → ⊥ = λ h l. yes-or-no _ (both-true _ _ (le-leb _ _ h) (lt-ltb _ _ l)) n in
         number-outside t page aligned inside w v q d ∙ sym (written-other t page 16 m q d)))
 
--- ---- how the code looks at a stride, and writes it
+-- ---- how the code looks at a stride, and writes it: `number` is that of the page
 module _ (t : List ℕ) (page left m : ℕ) where
   pub bears-none : mostPages ≤ page → false ≡ all (bears t m) page (stride page left)
   bears-none h = all-stops _ _ _ _ refl (stride-so page left _ refl .some) (bears-past t m page h)
 
-  module _ (n : ℕ) (e : n ≡ stride page left) (inside : page < mostPages) where
-    pub bears-number : n ≡ 16 → WholeMarks t → eqb (getD t (page / 16) 0) (m % 16 * 1229782938247303441) ≡ all (bears t m) page (stride page left)
-    bears-number h w = rw (← e, h, alike-is (m % 16)) (number-bears t m page inside w (stride-so page left n e .aligned h))
+  pub bears-inside : (said : Bool) → said ≡ all (bears t m) page (stride page left) → said ≡ true → page < mostPages
+  unfolding bears
+  bears-inside said e y =
+      let some = stride-so page left _ refl .some in
+      ltb-true _ _ (left-true (ltb page mostPages) _ (all-at (bears t m) page (stride page left) page (sym e ∙ y) (omega arith) (omega arith)))
 
-    pub bears-page : (seen : ℕ) → (n ≡ 16 → ⊥) → seen ≡ mark t page → eqb seen (m % 16) ≡ all (bears t m) page (stride page left)
-    bears-page seen h f = rw (← e, stride-so page left n e .single h) (one-bears t m page inside seen f)
+  module _ (n : ℕ) (e : n ≡ stride page left) (inside : page < mostPages) where
+    module _ (number : ℕ) (is : number ≡ getD t (page / 16) 0) where
+      pub bears-number : n ≡ 16 → WholeMarks t → eqb number (m % 16 * 1229782938247303441) ≡ all (bears t m) page (stride page left)
+      bears-number h w = rw (← e, h, alike-is (m % 16), is) (number-bears t m page inside w (stride-so page left n e .aligned h))
+
+      pub bears-page : (seen : ℕ) → (n ≡ 16 → ⊥) → seen ≡ digit number (page % 16) → eqb seen (m % 16) ≡ all (bears t m) page (stride page left)
+      bears-page seen h f =
+          rw (← e, stride-so page left n e .single h) (one-bears t m page inside seen (mark-in t page seen inside (f ∙ ap (λ (k : ℕ). digit k (page % 16)) is)))
+
+      pub writes-page : (v : ℕ) → (n ≡ 16 → ⊥) → v ≡ put number (page % 16) (m % 16) → set t (page / 16) v ≡ written t page (stride page left) m
+      unfolding written
+      writes-page v h f =
+          rw (← e, stride-so page left n e .single h) (marked-in t page m v inside (f ∙ ap (λ (k : ℕ). put k (page % 16) (m % 16)) is))
 
     pub writes-number : n ≡ 16 → WholeMarks t → set t (page / 16) (m % 16 * 1229782938247303441) ≡ written t page (stride page left) m
     writes-number h w = rw (← e, h, alike-is (m % 16)) (number-written t m page inside w (stride-so page left n e .aligned h))
-
-    pub writes-page : (t′ : List ℕ) → (n ≡ 16 → ⊥) → t′ ≡ marked t page m → t′ ≡ written t page (stride page left) m
-    unfolding written
-    writes-page t′ h f = rw (← e, stride-so page left n e .single h) f
 
 pub ruleset parts = (bears-none, bears-number, bears-page, writes-number, writes-page)

@@ -11,7 +11,7 @@ use borrow.Author.Tests.{ltb-true, ltb-false, eqb-true, eqb-false}
 use Rattle.rules.specs.Sizes.{mostPages}
 use Rattle.rules.specs.Choice.{pick, pick-yes, pick-no, by, either}
 use Rattle.tools.specs.Store.{read, write, Whole, read-in, write-in, write-out, write-same, write-other, write-whole, blank-whole, blank-read, past-read}
-use Rattle.marks.specs.Digits.{digit, put, digit-small, zero-digit, put-same, put-other, put-fits, same-digits, digit-is}
+use Rattle.marks.specs.Digits.{digit, put, digit-small, zero-digit, put-same, put-other, put-fits, same-digits, digit-plain}
 
 -- how many numbers there are
 abbrev pub numbers : ℕ
@@ -63,22 +63,18 @@ module _ (t : List ℕ) (page : ℕ) where
       let k : page / 16 < numbers = omega arith in
       rw (e, ← read-in numbers t (page / 16) k) (write-in numbers t (page / 16) _ k)
 
-  pub marked-out : (m : ℕ) → mostPages ≤ page → t ≡ marked t page m
-  unfolding marked
-  marked-out m h = let k : numbers ≤ page / 16 = omega arith in write-out numbers t (page / 16) _ k
-
-pub ruleset places = (unmarked-is, mark-in, mark-out, marked-in, marked-out)
+pub ruleset places = (unmarked-is, mark-in, mark-out)
 
 -- ---- a mark has four bits, and these are its page's part of the number in which it stands
 pub mark-small : (t : List ℕ) (page : ℕ) → mark t page < 16
 unfolding mark
 mark-small t page = digit-small _ (page % 16)
 
-pub mark-plain : (t : List ℕ) (page : ℕ) → page < mostPages → getD t (page / 16) 0 / 2 ^ (4 * (page % 16)) % 16 ≡ mark t page
+pub mark-plain : (t : List ℕ) (page : ℕ) → page < mostPages → getD t (page / 16) 0 / 16 ^ (page % 16) % 16 ≡ mark t page
 unfolding mark
 mark-plain t page h =
     let k : page / 16 < numbers = omega arith in
-    rw (← read-in numbers t (page / 16) k) (digit-is (getD t (page / 16) 0) (page % 16))
+    rw (← read-in numbers t (page / 16) k) (digit-plain (getD t (page / 16) 0) (page % 16))
 
 -- ---- no page has a mark at first
 pub unmarked-mark : (page : ℕ) → mark unmarked page ≡ 0

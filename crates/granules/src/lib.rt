@@ -1,8 +1,9 @@
 // The granule table: a mark for each page, sixteen in each number. Runs of pages are tested and marked by whole numbers where they cover sixteen.
 ghost use mathlib.Core.Path.{_≡_};
 ghost use Prim.Native.Nat.{_<_};
+ghost use Rattle.rules.specs.Sizes.{mostPages};
 ghost use Rattle.tools.specs.Search.{all};
-ghost use Rattle.granules.specs.Table.{unmarked, mark, marked, WholeMarks};
+ghost use Rattle.granules.specs.Table.{unmarked, mark, WholeMarks};
 ghost use Rattle.granules.specs.Runs.{bears, allBear, written, filled};
 ghost use Rattle.granules.specs.Strides.{stride};
 use rules::MOST_PAGES;
@@ -13,13 +14,16 @@ const SIXTEEN: u64 = 16;
 // The mark 1 at each of the sixteen places.
 const ONES: u64 = 0x1111111111111111;
 
-pub type Granules = [u64; 256];
+// How many numbers there are.
+const NUMBERS: u64 = MOST_PAGES / SIXTEEN;
+
+pub type Granules = [u64; NUMBERS as usize];
 
 // No page has a mark.
 pub fn fresh() -> Granules
     ensures { λ r. ⌜ r ≡ unmarked ⌝ }
 {
-    [0; 256]
+    [0; NUMBERS as usize]
 }
 
 // The mark of a page; 0 past the last.
@@ -30,18 +34,6 @@ pub fn mark_of(t: &Granules, page: u64) -> u64
         return 0;
     }
     marks::read(t[(page / SIXTEEN) as usize], page)
-}
-
-// Gives one page another mark.
-fn mark_page(t: &mut Granules, page: u64, m: u64)
-    ensures { λ _. ⌜ now (t .exit) ≡ marked (now (t .entry)) page m ⌝ }
-{
-    if MOST_PAGES <= page {
-        return;
-    }
-    let i = (page / SIXTEEN) as usize;
-    let was = t[i];
-    t[i] = marks::write(was, page, m);
 }
 
 // That the table is whole, for those who compare and write its numbers as wholes.
@@ -69,15 +61,15 @@ fn stride_of(page: u64, left: u64) -> u64
 fn stride_bears(t: &Granules, page: u64, left: u64, m: u64) -> bool
     ensures { λ r. ⌜ r ≡ all (bears (now (t .entry)) m) page (stride page left) ⌝ }
 {
-    let n = stride_of(page, left);
     if MOST_PAGES <= page {
         return false;
     }
-    if n == SIXTEEN {
-        see_whole(t);
-        return t[(page / SIXTEEN) as usize] == m % SIXTEEN * ONES;
+    see_whole(t);
+    let number = t[(page / SIXTEEN) as usize];
+    if stride_of(page, left) == SIXTEEN {
+        return number == m % SIXTEEN * ONES;
     }
-    mark_of(t, page) == m % SIXTEEN
+    marks::read(number, page) == m % SIXTEEN
 }
 
 // Whether each page of the run is one of the table and has the mark.
@@ -87,9 +79,6 @@ pub fn all_bear(t: &Granules, first: u64, count: u64, m: u64) -> bool
     let mut page = first;
     let mut unseen = count;
     while 0 < unseen {
-        if MOST_PAGES <= page {
-            return false;
-        }
         let n = stride_of(page, unseen);
         if stride_bears(t, page, unseen, m) {
             page += n;
@@ -103,15 +92,16 @@ pub fn all_bear(t: &Granules, first: u64, count: u64, m: u64) -> bool
 
 // Gives each page of the next stride the mark.
 fn mark_stride(t: &mut Granules, page: u64, left: u64, m: u64)
-    requires { ⌜ page < 4096 ⌝ }
+    requires { ⌜ page < mostPages ⌝ }
     ensures { λ _. ⌜ now (t .exit) ≡ written (now (t .entry)) page (stride page left) m ⌝ }
 {
-    let n = stride_of(page, left);
-    if n == SIXTEEN {
-        see_whole(t);
-        t[(page / SIXTEEN) as usize] = m % SIXTEEN * ONES;
+    see_whole(t);
+    let i = (page / SIXTEEN) as usize;
+    if stride_of(page, left) == SIXTEEN {
+        t[i] = m % SIXTEEN * ONES;
     } else {
-        mark_page(t, page, m);
+        let was = t[i];
+        t[i] = marks::write(was, page, m);
     }
 }
 

@@ -106,6 +106,13 @@ digit-is n (suc place) =
     let f : n / 2 ^ (4 * suc place) ≡ n / 16 / 2 ^ (4 * place) = rw e (sym (shr-shr n 4 (4 * place))) in
     rw f (digit-is (n / 16) place)
 
+sixteen-power : (place : ℕ) → 16 ^ place ≡ 2 ^ (4 * place)
+sixteen-power zero = refl
+sixteen-power (suc place) = let e = pow-suc 16 place in let f = power-next place in let r = sixteen-power place in omega arith
+
+pub digit-plain : (n place : ℕ) → n / 16 ^ place % 16 ≡ digit n place
+digit-plain n place = rw (sixteen-power place) (digit-is n place)
+
 -- what a digit counts is no more than the number
 counts-less : (n place : ℕ) → digit n place * 2 ^ (4 * place) ≤ n
 unfolding digit

@@ -1,8 +1,10 @@
 -- The mark of each owner, and the owner that a mark stands for.
 use mathlib.Core.Path.{_≡_, refl, _∙_}
+use mathlib.Core.List.{[], _∷_}
 use Prim.Native.Nat.{ℕ, _≤_, _<_}
 use native.Mathlib.Omega.{arith}
 use lib.Dec.{leb, eqb}
+use lib.ListN.{getD}
 use borrow.Author.Tests.{leb-true, eqb-true, ne-eqb}
 use Rattle.rules.specs.Sizes.{root, secure, normal, realm, lastWorld, worlds}
 use Rattle.rules.specs.Choice.{pick, pick-no}
@@ -41,6 +43,11 @@ mark-high w h = leb-true _ _ (all-at (λ (w : ℕ). leb (markOf w) 11) 0 4 w ref
 pub owner-world : (m : ℕ) → 8 ≤ m → m ≤ 11 → ownerOf m ≤ lastWorld
 unfolding all ownerOf pick
 owner-world m h l = leb-true _ _ (all-at (λ (m : ℕ). leb (ownerOf m) lastWorld) 8 4 m refl h (omega arith))
+
+-- in the order of the owners' numbers
+pub marks-listed : (w : ℕ) → w ≤ lastWorld → markOf w ≡ getD (10 ∷ 8 ∷ 9 ∷ 11 ∷ []) w 0
+unfolding all markOf pick
+marks-listed w h = eqb-true _ _ (all-at (λ (w : ℕ). eqb (markOf w) (getD (10 ∷ 8 ∷ 9 ∷ 11 ∷ []) w 0)) 0 4 w refl (omega arith) (omega arith))
 
 -- every other mark is nobody's
 module _ (m : ℕ) where

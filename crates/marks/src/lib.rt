@@ -19,7 +19,7 @@ const ROOTS: u64 = 0xA;
 const REALMS: u64 = 0xB;
 
 // The mark of no page.
-const NOBODYS: u64 = 0;
+pub const NOBODYS: u64 = 0;
 
 // What a mark at the place of a page counts.
 fn unit_of(page: u64) -> u64

@@ -2,9 +2,9 @@
 use mathlib.Core.Path.{_≡_}
 use native.Mathlib.Omega.{arith}
 use borrow.Author.Needs.{needs}
-use Rattle.tools.specs.Search.{all, all-stops, all-ends}
-use Rattle.granules.specs.Strides.{stride-so, part-goes, part-stops}
-use Rattle.granules.specs.Runs.{allBear, bears, bears-past}
+use Rattle.tools.specs.Search.{all, all-ends}
+use Rattle.granules.specs.Runs.{allBear, bears}
+use Rattle.granules.specs.Strides.{stride-so, bears-inside, part-goes, part-stops}
 use Rattle.granules.proofs.all_bear.Statement.{statement}
 use Rattle.granules.proofs.all_bear.Tie as tie
 
@@ -18,9 +18,6 @@ loop-holds : tie.Need-loop-holds Inv-loop μ-loop
 unfolding allBear
 loop-holds c = search needs
 
-returns : tie.Need-returns Inv-loop μ-loop
-returns c = all-stops _ _ _ _ (c .before .before .loop .inv) (search needs) (bears-past _ _ _ (search needs))
-
 stride-of-requires : tie.Need-stride-of-requires Inv-loop μ-loop
 stride-of-requires c κs = search needs
 
@@ -28,7 +25,8 @@ stride-bears-requires : tie.Need-stride-bears-requires Inv-loop μ-loop
 stride-bears-requires c κs = search needs
 
 add-page : tie.Need-add-page Inv-loop μ-loop
-add-page c = omega (arith, stride-so _ _ _ (c .before .before .stride-of .ensures) .few)
+add-page c =
+    omega (arith, stride-so _ _ _ (c .before .before .stride-of .ensures) .few, bears-inside _ _ _ _ _ (c .before .stride-bears .ensures) (search needs))
 
 sub-unseen : tie.Need-sub-unseen Inv-loop μ-loop
 sub-unseen c = stride-so _ _ _ (c .before .before .stride-of .ensures) .inside (search needs)
@@ -38,14 +36,14 @@ loop-less c = omega (arith, stride-so _ _ _ (c .before .before .stride-of .ensur
 
 loop-again : tie.Need-loop-again Inv-loop μ-loop
 loop-again c =
-    part-goes _ _ _ _ _ (c .before .before .before .before .before .loop .inv) (stride-so _ _ _ (c .before .before .stride-of .ensures) .inside (search needs)) (cc)
+    part-goes _ _ _ _ _ (c .before .before .before .before .loop .inv) (stride-so _ _ _ (c .before .before .stride-of .ensures) .inside (search needs)) (cc)
+
+returns : tie.Need-returns Inv-loop μ-loop
+returns c =
+    part-stops _ _ _ (c .before .before .stride-of .result) _ (c .before .before .before .before .loop .inv) (stride-so _ _ _ (c .before .before .stride-of .ensures) .inside (search needs)) (cc)
 
 returns-2 : tie.Need-returns-2 Inv-loop μ-loop
-returns-2 c =
-    part-stops _ _ _ (c .before .before .stride-of .result) _ (c .before .before .before .before .before .loop .inv) (stride-so _ _ _ (c .before .before .stride-of .ensures) .inside (search needs)) (cc)
-
-returns-3 : tie.Need-returns-3 Inv-loop μ-loop
-returns-3 c = all-ends _ _ _ _ (c .before .loop .inv) (search needs)
+returns-2 c = all-ends _ _ _ _ (c .before .loop .inv) (search needs)
 
 pub all-bear-spec : {M : Type 1} → statement M
 all-bear-spec =
@@ -54,12 +52,11 @@ all-bear-spec =
     Inv-loop
     μ-loop
     loop-holds
-    returns
     stride-of-requires
     stride-bears-requires
     add-page
     sub-unseen
     loop-less
     loop-again
-    returns-2
-    returns-3)
+    returns
+    returns-2)
