@@ -13,9 +13,9 @@ use Rattle.cores.specs.Power.{turnOf, off, pending, on, isOn, isPending}
 use Rattle.cores.specs.Cores.{power, withPower, with-power-whole, turn, withTurn, with-turn-whole, power-other, turn-same, turn-other, firstPowers, firstTurns, first-powers-whole, first-power-other, first-turns-whole, first-turn}
 use Rattle.cores.specs.declared.Power.{Power}
 use Rattle.cores.specs.declared.Turn.{Turn}
-use Rattle.rules.specs.Sizes.{lastWorld, mostCores}
-use Rattle.pages.specs.Window.{acceptable}
-use Rattle.pages.specs.Owners.{WholeOwners, owner, given, given-whole, given-worlds}
+use Rattle.rules.specs.Sizes.{mostCores}
+use Rattle.pages.specs.Window.{acceptable, accepted, run-is}
+use Rattle.pages.specs.Owners.{WholeOwners, given, given-whole, Packed, given-packed}
 use Rattle.mapping.specs.Lists.{WholeLists, holding-whole, released-whole, unmapped, unmapped-whole, held, held-unmapped, holding, holding-other, holding-inserts, released-other, released-takes}
 use Rattle.mapping.specs.Sound.{Sound, sound-none, granted-room, granted-formed, granted-keeps, without-keeps}
 use Rattle.ranges.specs.declared.Mapping.{Mapping}
@@ -41,9 +41,9 @@ pub record Right (s : State) : Type 0 where
   pub window : acceptable (s .site .window) ≡ true
   pub some-cores : 0 < s .site .cores
   pub most-cores : s .site .cores ≤ mostCores
-  -- every table has all its numbers, and every owner is a world
+  -- every table has all its numbers, and the pages of the window alone have owners' marks
   pub whole : WholeTables s
-  pub worlds : (page : ℕ) → owner (s .owners) page ≤ lastWorld
+  pub packed : Packed (s .owners) (s .site .window .pages)
   -- each world's mappings are well formed, apart, and of pages that the world owns
   pub sound : (world : ℕ) → Sound (s .site .window) (s .owners) world (held (s .lists) world)
   pub running : (core : ℕ) → core < mostCores → Running (turn (s .turns) core) (power (s .powers) core)
@@ -82,32 +82,32 @@ on-exists s r core e =
 
 -- ---- a right state with other tables: what they have to be
 module _ (s : State) (r : Right s) where
-  right-with : (t : Tables) → WholeTables (withTables s t) → ((page : ℕ) → owner (t .owners) page ≤ lastWorld)
+  right-with : (t : Tables) → WholeTables (withTables s t) → Packed (t .owners) (s .site .window .pages)
       → ((world : ℕ) → Sound (s .site .window) (t .owners) world (held (t .lists) world))
       → ((core : ℕ) → core < mostCores → Running (turn (t .turns) core) (power (t .powers) core))
       → ((core : ℕ) → s .site .cores ≤ core → power (t .powers) core .state ≡ off)
       → Right (withTables s t)
-  right-with t whole worlds sound running absent =
-      record { window = r .window; some-cores = r .some-cores; most-cores = r .most-cores; whole = whole; worlds = worlds; sound = sound; running = running; absent = absent }
+  right-with t whole packed sound running absent =
+      record { window = r .window; some-cores = r .some-cores; most-cores = r .most-cores; whole = whole; packed = packed; sound = sound; running = running; absent = absent }
 
-  right-owners : (o : List ℕ) → WholeOwners o → ((page : ℕ) → owner o page ≤ lastWorld) → ((world : ℕ) → Sound (s .site .window) o world (held (s .lists) world))
+  right-owners : (o : List ℕ) → WholeOwners o → Packed o (s .site .window .pages) → ((world : ℕ) → Sound (s .site .window) o world (held (s .lists) world))
       → Right (withTables s (withOwners (tablesOf s) o))
-  right-owners o h worlds sound =
+  right-owners o h packed sound =
       right-with (withOwners (tablesOf s) o)
       (record { owners-whole = h; saved-whole = r .whole .saved-whole; powers-whole = r .whole .powers-whole; turns-whole = r .whole .turns-whole; lists-whole = r .whole .lists-whole })
-      worlds sound (r .running) (r .absent)
+      packed sound (r .running) (r .absent)
 
   right-saved : (n : List ℕ) → Whole n → Right (withTables s (withSaved (tablesOf s) n))
   right-saved n h =
       right-with (withSaved (tablesOf s) n)
       (record { owners-whole = r .whole .owners-whole; saved-whole = h; powers-whole = r .whole .powers-whole; turns-whole = r .whole .turns-whole; lists-whole = r .whole .lists-whole })
-      (r .worlds) (r .sound) (r .running) (r .absent)
+      (r .packed) (r .sound) (r .running) (r .absent)
 
   right-lists : (m : List ℕ) → WholeLists m → ((world : ℕ) → Sound (s .site .window) (s .owners) world (held m world)) → Right (withTables s (withLists (tablesOf s) m))
   right-lists m h sound =
       right-with (withLists (tablesOf s) m)
       (record { owners-whole = r .whole .owners-whole; saved-whole = r .whole .saved-whole; powers-whole = r .whole .powers-whole; turns-whole = r .whole .turns-whole; lists-whole = h })
-      (r .worlds) sound (r .running) (r .absent)
+      (r .packed) sound (r .running) (r .absent)
 
   -- one core's power: what the core runs has to be able to run at it
   right-power : (k : ℕ) (p : Power) → k < s .site .cores → (Running (turn (s .turns) k) (power (s .powers) k) → Running (turn (s .turns) k) (power (withPower (s .powers) k p) k))
@@ -115,7 +115,7 @@ module _ (s : State) (r : Right s) where
   right-power k p exists may =
       right-with (withPowers (tablesOf s) (withPower (s .powers) k p))
       (record { owners-whole = r .whole .owners-whole; saved-whole = r .whole .saved-whole; powers-whole = with-power-whole _ k p (r .whole .powers-whole); turns-whole = r .whole .turns-whole; lists-whole = r .whole .lists-whole })
-      (r .worlds) (r .sound)
+      (r .packed) (r .sound)
       (λ c h. same-or-other c k (λ e. rw e (may (rw e at (r .running c h)))) (λ n. rw (power-other (s .powers) k p c n) (r .running c h)))
       (λ c h. rw (power-other (s .powers) k p c (λ e. omega arith)) (r .absent c h))
 
@@ -124,7 +124,7 @@ module _ (s : State) (r : Right s) where
   right-turn k t inside may =
       right-with (withTurns (tablesOf s) (withTurn (s .turns) k t))
       (record { owners-whole = r .whole .owners-whole; saved-whole = r .whole .saved-whole; powers-whole = r .whole .powers-whole; turns-whole = with-turn-whole _ k t (r .whole .turns-whole); lists-whole = r .whole .lists-whole })
-      (r .worlds) (r .sound)
+      (r .packed) (r .sound)
       (λ c h. same-or-other c k (λ e. rw (e, turn-same (s .turns) k t (r .whole .turns-whole) inside) may) (λ n. rw (turn-other (s .turns) k t c n) (r .running c h)))
       (r .absent)
 
@@ -143,8 +143,10 @@ module _ (s : State) (r : Right s) (core : ℕ) (ready : isOn (power (s .powers)
   deed-right : (d : Deed) → Grounds (sight s core .inner) d → (xs : List ℕ) → Right (carriedIn d s core (callerOf s core) xs)
   deed-right Nothing g xs = r
   deed-right (Move first count to) g xs =
+      let w = s .site .window in
+      let run = run-is w (r .window) (g .start) count first (transfer-granted _ _ _ _ _ _ _ (g .verdict) .0 .lies) in
       right-owners s r _ (given-whole _ first count to (r .whole .owners-whole))
-      (given-worlds (s .owners) first count to (r .whole .owners-whole) (r .worlds))
+      (given-packed (s .owners) first count to (w .pages) (r .whole .owners-whole) (accepted w (r .window) .most) (run .inside) (r .packed))
       (move-sound (g .start) count first (g .from) to (g .list) (g .between) (transfer-granted _ _ _ _ _ _ _ (g .verdict) .0))
   deed-right (Map m) g xs =
       right-lists s r _ (holding-whole _ (callerOf s core) m (r .whole .lists-whole))
@@ -188,7 +190,7 @@ module _ (s : State) (r : Right s) (core : ℕ) where
 
 -- ---- the start
 -- The state that set-up leaves is right: no number saved, core 0 ON in Normal, the others OFF, and no mapping.
-pub first-right : (w : Site) (l o : List ℕ) → acceptable (w .window) ≡ true → 0 < w .cores → w .cores ≤ mostCores → WholeOwners o → ((page : ℕ) → owner o page ≤ lastWorld)
+pub first-right : (w : Site) (l o : List ℕ) → acceptable (w .window) ≡ true → 0 < w .cores → w .cores ≤ mostCores → WholeOwners o → Packed o (w .window .pages)
     → Right (state w l o zeros firstPowers firstTurns unmapped)
 first-right w l o ok some most h f =
     record {
@@ -202,7 +204,7 @@ first-right w l o ok some most h f =
         turns-whole = first-turns-whole;
         lists-whole = unmapped-whole;
       };
-      worlds = f;
+      packed = f;
       sound = λ world. rw (held-unmapped world) (sound-none (w .window) o world);
       running = λ core k. rw (first-turn core k) (normal-running _);
       absent = λ core k. rw (first-power-other core (λ e. omega arith));

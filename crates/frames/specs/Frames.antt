@@ -44,8 +44,8 @@ abbrev pub first : Machine
 first = machine unset unnamed empty unowned zeros firstPowers firstTurns unmapped
 
 -- ---- any frame
-abbrev pub withSetup : Machine → List ℕ × Status → Machine × Reply
-withSetup m o = (machine (o .0) (m .named) (m .ledger) (m .owners) (m .saved) (m .powers) (m .turns) (m .lists), Told (o .1))
+abbrev pub withSite : Machine → (List ℕ × List ℕ) × Status → Machine × Reply
+withSite m o = (machine (o .0 .0) (m .named) (m .ledger) (o .0 .1) (m .saved) (m .powers) (m .turns) (m .lists), Told (o .1))
 
 abbrev pub withLedger : Machine → List ℕ × Status → Machine × Reply
 withLedger m o = (machine (m .setup) (m .named) (o .0) (m .owners) (m .saved) (m .powers) (m .turns) (m .lists), Told (o .1))
@@ -62,7 +62,7 @@ withCoreTables m o = (machine (m .setup) (m .named) (m .ledger) (m .owners) (o .
 
 -- the machine after a frame with these eight numbers, and the answer; a line that is no frame has its answer already
 unfoldable pub framed : Machine → Frame → List ℕ → Machine × Reply
-framed m (Frame.Site base pages count) xs = withSetup m (sited (m .setup) base pages count)
+framed m (Frame.Site base pages count) xs = withSite m (sited (m .setup) (m .owners) base pages count)
 framed m (Frame.Entry first last kind number) xs = withLedger m (entering (m .setup) (m .ledger) first last kind number)
 framed m (Frame.Name first count to) xs = withPages m (namingIn (m .setup) (m .owners) (m .named) first count to)
 framed m (Frame.Call core) xs = withState m (calling (m .setup) (stateOf m) core xs)

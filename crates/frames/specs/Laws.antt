@@ -15,10 +15,10 @@ use Rattle.arriving.specs.Arriving.{arriving}
 use Rattle.frames.specs.Frames.{machine, framed}
 
 module _ (s n l o v p t k : List ℕ) (f : Frame) (xs : List ℕ) where
-  pub step-site : (base pages count : ℕ) (s′ : List ℕ) (r : Status) → f ≡ Frame.Site base pages count → (s′, r) ≡ sited s base pages count
-      → (machine s′ n l o v p t k, Told r) ≡ framed (machine s n l o v p t k) f xs
+  pub step-site : (base pages count : ℕ) (s′ o′ : List ℕ) (r : Status) → f ≡ Frame.Site base pages count → ((s′, o′), r) ≡ sited s o base pages count
+      → (machine s′ n l o′ v p t k, Told r) ≡ framed (machine s n l o v p t k) f xs
   unfolding framed
-  step-site base pages count s′ r e h = rw (e, ← h)
+  step-site base pages count s′ o′ r e h = rw (e, ← h)
 
   pub step-entry : (first last kind number : ℕ) (l′ : List ℕ) (r : Status) → f ≡ Frame.Entry first last kind number → (l′, r) ≡ entering s l first last kind number
       → (machine s n l′ o v p t k, Told r) ≡ framed (machine s n l o v p t k) f xs

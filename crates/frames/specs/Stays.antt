@@ -5,12 +5,14 @@ use mathlib.Core.List.{List}
 use Prim.Native.Nat.{ℕ, _<_}
 use native.Mathlib.Omega.{arith}
 use borrow.Author.Tests.{leb-false, not-false}
+use Rattle.rules.specs.Sizes.{root}
 use Rattle.rules.specs.Choice.{chosen, yes-or-no}
 use Rattle.ledger.specs.Ledger.{entered}
 use Rattle.rules.specs.declared.Entered.the-variants as Entered
 use Rattle.registers.specs.declared.Shown.{Shown}
 use Rattle.cores.specs.Power.{isOn, isPending}
 use Rattle.cores.specs.Cores.{power}
+use Rattle.pages.specs.Owners.{given}
 use Rattle.pages.specs.Naming.{naming}
 use Rattle.calls.specs.Step.{State, called, applied, CoreTables, arrivedIn, arrives}
 use Rattle.parsing.specs.declared.Status.{Status}
@@ -27,14 +29,14 @@ use Rattle.showing.specs.declared.Reply.{Reply}
 use Rattle.showing.specs.declared.Reply.the-variants.{Told, Called}
 use Rattle.calling.specs.declared.Tried.{Tried}
 use Rattle.arriving.specs.Arriving.{arriving}
-use Rattle.frames.specs.Frames.{Machine, stateOf, coreTablesOf, withSetup, withLedger, withPages, withState, withCoreTables, framed}
+use Rattle.frames.specs.Frames.{Machine, stateOf, coreTablesOf, withSite, withLedger, withPages, withState, withCoreTables, framed}
 
 -- ---- a frame by its outcomes: a case for a line that is no frame, one for all refusals, and one for each kind that is accepted, with what it has met
 module _ (m : Machine) (xs : List ℕ) (P : Frame → Machine × Reply → Type 0)
     (unread : (why : Status) → P (Frame.Refused why) (m, Told why))
     (refused : (f : Frame) (why : Status) → (why ≡ Accepted → ⊥) → P f (m, Told why))
     (site : (base pages count : ℕ) → ready (m .setup) ≡ false → fits (record { base = base; pages = pages }) count ≡ true
-    → P (Frame.Site base pages count) (withSetup m (fixed (m .setup) base pages count, Accepted)))
+    → P (Frame.Site base pages count) (withSite m ((fixed (m .setup) base pages count, given (m .owners) 0 pages root), Accepted)))
     (entry : (first last kind number : ℕ) → ready (m .setup) ≡ true → ended (m .setup) ≡ false → entered (m .ledger) first last kind number .0 ≡ Entered.Accepted
     → P (Frame.Entry first last kind number) (withLedger m (entered (m .ledger) first last kind number .1, Accepted)))
     (name : (first count to : ℕ) → ready (m .setup) ≡ true → ended (m .setup) ≡ false → naming (m .owners) (m .named) (window (m .setup) .pages) first count to .0 ≡ Entered.Accepted
@@ -46,7 +48,7 @@ module _ (m : Machine) (xs : List ℕ) (P : Frame → Machine × Reply → Type 
   pub framed-by : (f : Frame) → P f (framed m f xs)
   unfolding framed calling trying performed arriving
   framed-by (Frame.Site base pages count) =
-      sited-by (m .setup) base pages count (λ (o : List ℕ × Status). P (Frame.Site base pages count) (withSetup m o))
+      sited-by (m .setup) (m .owners) base pages count (λ (o : (List ℕ × List ℕ) × Status). P (Frame.Site base pages count) (withSite m o))
       (refused (Frame.Site base pages count)) (site base pages count)
   framed-by (Frame.Entry first last kind number) =
       entering-by (m .setup) (m .ledger) first last kind number (λ (o : List ℕ × Status). P (Frame.Entry first last kind number) (withLedger m o))

@@ -29,7 +29,7 @@ pub fn step(
 {
     match frame {
         Frame::Site { base, pages, cores } => {
-            Reply::Told(setup::fix_site(setup, base, pages, cores))
+            Reply::Told(setup::fix_site(setup, owners, base, pages, cores))
         }
         Frame::Entry {
             first,

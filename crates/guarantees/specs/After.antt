@@ -4,16 +4,18 @@ use mathlib.Core.Bool.{true, false}
 use mathlib.Core.List.{List, [], _∷_}
 use mathlib.Core.Option.{none, some}
 use mathlib.Core.Logic.{inl}
-use Prim.Native.Nat.{ℕ, _+_, _-_, _≤_}
+use Prim.Native.Nat.{ℕ, _+_, _-_, _≤_, _<_}
 use native.Mathlib.Omega.{arith}
 use lib.Dec.{eqb}
 use borrow.Author.Tests.{eqb-true, eqb-false, ltb-true, ltb-false}
 use lib.Dec.{ltb}
+use lib.ListN.{getD}
 use Rattle.rules.specs.Sizes.{mostCores}
 use Rattle.rules.specs.Choice.{pick-yes, pick-no, either, yes-or-no, first-or, not-first, not-second}
 use Rattle.cores.specs.Power.{isOn, isPending}
 use Rattle.cores.specs.Cores.{power, turn, firstPowers, first-power-other, first-turn}
-use Rattle.pages.specs.Owners.{unowned-owner}
+use Rattle.pages.specs.Window.{accepted}
+use Rattle.pages.specs.Owners.{unowned-owner, unowned-packed, packed-world, packed-inside, packed-past}
 use Rattle.mapping.specs.Lists.{held-unmapped}
 use Rattle.ranges.specs.Ranges.{meet, meet-if, within-low, within-high}
 use Rattle.mapping.specs.Mapping.{holds, clashes, clash, anyOf, firstOf, deciding, leadOf}
@@ -31,7 +33,7 @@ use Rattle.frames.specs.Stays.{site-stays, settled}
 use Rattle.guarantees.specs.Runs.{Event, Events, next, ran, replies, replies-count, always}
 use Rattle.guarantees.specs.Fit.{Fit, fit-next}
 use Rattle.guarantees.specs.Owners.{owner-named, named-owner}
-use Rattle.guarantees.specs.Statements.{window, ownerIn, mapped, holdings, Guaranteed}
+use Rattle.guarantees.specs.Statements.{window, ownerIn, markIn, mapped, holdings, Guaranteed}
 
 -- ---- a world's mappings are apart, so one virtual address is held once
 module _ (x : ℕ) where
@@ -68,7 +70,14 @@ module _ (m : Machine) (fit : Fit m) where
   fit-sound world = by-time (λ e r. r .sound world) (λ e. rw (e, held-unmapped world) (sound-none _ _ world))
 
   fit-world : (page : ℕ) → ownerIn m page ≤ 3
-  fit-world page = by-time (λ e r. r .worlds page) (λ e. rw (e, unowned-owner page) (omega arith))
+  fit-world page = by-time (λ e r. packed-world _ _ (r .packed) page) (λ e. rw (e, unowned-owner page) (omega arith))
+
+  fit-packed : (page : ℕ) → ready (m .setup) ≡ true → page < window m .pages → markIn m page ≡ getD (0xA ∷ 0x8 ∷ 0x9 ∷ 0xB ∷ []) (ownerIn m page) 0
+  fit-packed page e l = let r = fit .right e in packed-inside (m .owners) _ (r .packed) page (omega (arith, accepted _ (r .window) .most)) l
+
+  fit-past : (page : ℕ) → page < 4096 → (ready (m .setup) ≡ true → window m .pages ≤ page) → markIn m page ≡ 0
+  fit-past page h l =
+      by-time (λ e r. packed-past (m .owners) _ (r .packed) page h (l e)) (λ e. rw e (packed-past _ 0 unowned-packed page h (omega arith)))
 
   fit-once : (world page : ℕ) → coverings (window m) (mapped m world) page ≤ 1
   unfolding coverings
@@ -104,6 +113,8 @@ guaranteed-after m fit run =
       owner-named = λ page. owner-named page run m fit;
       owner-alone = λ page to n. named-owner page run m to fit n;
       owner-world = fit-world last f;
+      packed = fit-packed last f;
+      packed-past = fit-past last f;
       mapped-owned = λ world. fit-sound last f world .owned;
       mapped-inside = λ world. fit-sound last f world .formed;
       mapped-once = fit-once last f;

@@ -2,17 +2,17 @@
 use mathlib.Core.Path.{_≡_, refl, sym, _∙_}
 use mathlib.Core.Bool.{true, false, _&&_}
 use mathlib.Core.List.{List}
-use Prim.Native.Nat.{ℕ}
+use Prim.Native.Nat.{ℕ, _+_, _≤_}
 use native.Mathlib.Omega.{arith}
 use lib.Dec.{leb}
 use borrow.Author.Tests.{leb-true}
-use Rattle.rules.specs.Sizes.{mostCores}
+use Rattle.rules.specs.Sizes.{root, mostCores}
 use Rattle.rules.specs.Choice.{left-true, right-true, yes-or-no}
 use Rattle.ledger.specs.Ledger.{empty}
 use Rattle.registers.specs.Registers.{zeros}
 use Rattle.cores.specs.Cores.{firstPowers, firstTurns}
-use Rattle.pages.specs.Window.{acceptable}
-use Rattle.pages.specs.Owners.{unowned, unowned-whole, unowned-owner, given, given-whole, given-worlds}
+use Rattle.pages.specs.Window.{acceptable, accepted}
+use Rattle.pages.specs.Owners.{unowned, unowned-whole, unowned-packed, given, given-whole, given-packed, given-opens}
 use Rattle.pages.specs.Named.{WholeNamed, unnamed-whole, marked-whole}
 use Rattle.pages.specs.Naming.{naming-granted}
 use Rattle.mapping.specs.Lists.{unmapped, held-unmapped}
@@ -51,21 +51,23 @@ first-fit =
     }
 
 -- ---- each frame that is accepted
--- a window and cores such as there may be, and nothing done yet
-site-right : (site : Site) → fits (site .window) (site .cores) ≡ true → Right (state site empty unowned zeros firstPowers firstTurns unmapped)
+-- a window and cores such as there may be, every page Root's, and nothing done yet
+site-right : (site : Site) → fits (site .window) (site .cores) ≡ true → Right (state site empty (given unowned 0 (site .window .pages) root) zeros firstPowers firstTurns unmapped)
 unfolding fits
 site-right site e =
+    let ok = left-true (acceptable (site .window)) (leb 1 (site .cores) && leb (site .cores) mostCores) e in
     let some = right-true (acceptable (site .window)) (leb 1 (site .cores) && leb (site .cores) mostCores) e in
-    first-right site empty unowned
-    (left-true (acceptable (site .window)) (leb 1 (site .cores) && leb (site .cores) mostCores) e)
+    let pages = site .window .pages in
+    first-right site empty (given unowned 0 pages root) ok
     (leb-true 1 (site .cores) (left-true (leb 1 (site .cores)) (leb (site .cores) mostCores) some))
     (leb-true (site .cores) mostCores (right-true (leb 1 (site .cores)) (leb (site .cores) mostCores) some))
-    unowned-whole (λ page. rw (unowned-owner page) (omega arith))
+    (given-whole unowned 0 pages root unowned-whole)
+    (given-opens unowned 0 pages root pages unowned-whole (accepted (site .window) ok .most) refl refl (omega arith) unowned-packed)
 
 -- owners that a set-up line has given, where nothing is mapped
-given-right : (s : State) → Right s → s .lists ≡ unmapped → (first count to : ℕ)
+given-right : (s : State) → Right s → s .lists ≡ unmapped → (first count to : ℕ) → first + count ≤ s .site .window .pages
     → Right (state (s .site) (s .ledger) (given (s .owners) first count to) (s .saved) (s .powers) (s .turns) (s .lists))
-given-right s r b first count to =
+given-right s r b first count to inside =
     record {
       window = r .window;
       some-cores = r .some-cores;
@@ -77,7 +79,7 @@ given-right s r b first count to =
         turns-whole = r .whole .turns-whole;
         lists-whole = r .whole .lists-whole;
       };
-      worlds = given-worlds (s .owners) first count to (r .whole .owners-whole) (r .worlds);
+      packed = given-packed (s .owners) first count to (s .site .window .pages) (r .whole .owners-whole) (accepted (s .site .window) (r .window) .most) inside (r .packed);
       sound = λ world. rw (b, held-unmapped world) (sound-none (s .site .window) _ world);
       running = r .running;
       absent = r .absent;
@@ -97,7 +99,7 @@ entry-right s r l =
         turns-whole = r .whole .turns-whole;
         lists-whole = r .whole .lists-whole;
       };
-      worlds = r .worlds;
+      packed = r .packed;
       sound = r .sound;
       running = r .running;
       absent = r .absent;
@@ -126,7 +128,7 @@ fit-next m e h =
     let g = naming-granted (m .owners) (m .named) (window (m .setup) .pages) first count to c in
     record {
       idle = λ k. absurd (yes-or-no _ a k);
-      right = λ k. rw (g .owners-are) (given-right (stateOf m) (h .right a) (h .bare b) first count to);
+      right = λ k. rw (g .owners-are) (given-right (stateOf m) (h .right a) (h .bare b) first count to (g .range .inside));
       bare = h .bare;
       names = rw (g .named-are) (marked-whole (m .named) first count (h .names));
       ready = h .ready;

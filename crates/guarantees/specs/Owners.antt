@@ -6,8 +6,9 @@ use Prim.Native.Nat.{ℕ, _+_, _≤_, _<_}
 use native.Mathlib.Omega.{arith}
 use lib.Dec.{leb, ltb}
 use borrow.Author.Tests.{leb-true, leb-false, ltb-true, ltb-false}
+use Rattle.rules.specs.Sizes.{root}
 use Rattle.rules.specs.Choice.{either, yes-or-no}
-use Rattle.pages.specs.Owners.{owner}
+use Rattle.pages.specs.Owners.{owner, given, unowned-owner, unowned-given}
 use Rattle.pages.specs.Named.{isNamed, free-at}
 use Rattle.pages.specs.Naming.{naming, naming-granted, granted-inside, granted-outside}
 use Rattle.pages.specs.declared.Place.the-variants.{Page}
@@ -61,8 +62,9 @@ data Outcome (m : Machine) (e : Event) (page : ℕ) (o : Machine) : Type 0 where
   kept : ((to : ℕ) → Gives m e page to → ⊥) → owner (o .owners) page ≡ owner (m .owners) page → Outcome m e page o
 
 -- a frame of another kind gives nothing
-other-kind : (m : Machine) (e : Event) (page : ℕ) {g : Frame} → e .0 ≡ g → (byte g ≡ 0x20 → ⊥) → (byte g ≡ 0x12 → ⊥) → (o : Machine) → o .owners ≡ m .owners → Outcome m e page o
-other-kind m e page {g} is c n o same = kept none (rw same)
+other-kind : (m : Machine) (e : Event) (page : ℕ) {g : Frame} → e .0 ≡ g → (byte g ≡ 0x20 → ⊥) → (byte g ≡ 0x12 → ⊥) → (o : Machine)
+    → owner (o .owners) page ≡ owner (m .owners) page → Outcome m e page o
+other-kind m e page {g} is c n o same = kept none same
   where
     none : (to : ℕ) → Gives m e page to → ⊥
     none to (moves t) = c (ap byte (sym is ∙ t .is-call))
@@ -139,6 +141,10 @@ module _ (m : Machine) (fit : Fit m) (e : Event) (page : ℕ) where
           let g : deedIn (stateOf m) core (e .1) ≡ Move (t .lowest) (t .count) u = rw c at (moves-deed fit t) in
           n (rw g tt)
 
+  -- an accepted site: before it every page was Root's
+  site-keeps : (pages : ℕ) → ready (m .setup) ≡ false → owner (given (m .owners) 0 pages root) page ≡ owner (m .owners) page
+  site-keeps pages a = rw (fit .idle a) (unowned-given 0 pages page ∙ sym (unowned-owner page))
+
   -- any line
   outcome : Outcome m e page (next m e)
   unfolding performed
@@ -146,7 +152,7 @@ module _ (m : Machine) (fit : Fit m) (e : Event) (page : ℕ) where
       framed-by m (e .1) (λ (g : Frame) (o : Machine × Reply). e .0 ≡ g → framed m (e .0) (e .1) ≡ o → Outcome m e page (o .0))
       (λ why is so. other-kind m e page is (λ k. omega arith) (λ k. omega arith) _ refl)
       (λ g why d is so. kept (λ u. refusal why d so u) refl)
-      (λ base pages cores a b is so. other-kind m e page is (λ k. omega arith) (λ k. omega arith) _ refl)
+      (λ base pages cores a b is so. other-kind m e page is (λ k. omega arith) (λ k. omega arith) _ (site-keeps pages a))
       (λ lowest last kind number a b c is so. other-kind m e page is (λ k. omega arith) (λ k. omega arith) _ refl)
       (λ lowest count to a b c is so. naming-outcome lowest count to a c is (ap (λ (o : Machine × Reply). o .1) so) _ refl)
       (λ core a b c is so. call-outcome core a is (λ why k. shown-not-told _ _ _ _ why (sym (ap (λ (o : Machine × Reply). o .1) so) ∙ k)) _ refl)

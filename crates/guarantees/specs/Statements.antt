@@ -4,7 +4,7 @@ use mathlib.Core.Bool.{true, false}
 use mathlib.Core.List.{List, [], _∷_, _++_}
 use mathlib.Core.Logic.{_⊎_}
 use mathlib.Core.Option.{some}
-use Prim.Native.Nat.{ℕ, zero, suc, _+_, _-_, _*_, _%_, _≤_, _<_}
+use Prim.Native.Nat.{ℕ, zero, suc, _+_, _-_, _*_, _/_, _%_, _^_, _≤_, _<_}
 use lib.Dec.{eqb}
 use lib.ListN.{length, getD, drop}
 use Rattle.rules.specs.Choice.{pick}
@@ -59,6 +59,10 @@ window m = Table.window (m .setup)
 abbrev pub ownerIn : Machine → ℕ → ℕ
 ownerIn m page = owner (m .owners) page
 
+-- the mark of a page in the table of owners: sixteen marks of four bits in a number, that of the lowest page in the lowest bits
+abbrev pub markIn : Machine → ℕ → ℕ
+markIn m page = getD (m .owners) (page / 16) 0 / 16 ^ (page % 16) % 16
+
 abbrev pub mapped : Machine → ℕ → List Mapping
 mapped m world = held (m .lists) world
 
@@ -75,6 +79,10 @@ pub record Guaranteed (m : Machine) (run : Events) (last : Machine) (answers : L
   pub owner-alone : (page to : ℕ) → Named m run page to → ownerIn last page ≡ to
   -- The owner is one of the four worlds.
   pub owner-world : (page : ℕ) → ownerIn last page ≤ 3
+  -- Each page of the window has its owner's mark, of these the one in the place of the owner's number: Root's, Secure's, Normal's, Realm's.
+  pub packed : (page : ℕ) → ready (last .setup) ≡ true → page < window last .pages → markIn last page ≡ getD (0xA ∷ 0x8 ∷ 0x9 ∷ 0xB ∷ []) (ownerIn last page) 0
+  -- Every place past the window has the mark 0, and before there is one every place of the table.
+  pub packed-past : (page : ℕ) → page < 4096 → (ready (last .setup) ≡ true → window last .pages ≤ page) → markIn last page ≡ 0
   -- A world's mappings cover only pages which it owns.
   pub mapped-owned : (world page : ℕ) → covers (window last) (mapped last world) page ≡ true → ownerIn last page ≡ world
   -- Each of them is of some whole pages inside the window, ends at or below 2^32, and has attributes 0, 1 or 2.

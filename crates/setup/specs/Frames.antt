@@ -3,12 +3,13 @@ use mathlib.Core.Bool.{Bool, false, not, _&&_, _||_}
 use mathlib.Core.List.{List}
 use Prim.Native.Nat.{ℕ}
 use lib.Dec.{leb}
-use Rattle.rules.specs.Sizes.{mostCores}
+use Rattle.rules.specs.Sizes.{root, mostCores}
 use Rattle.rules.specs.Choice.{pick}
 use Rattle.ledger.specs.Ledger.{entered}
 use Rattle.rules.specs.declared.Entered.{Entered}
 use Rattle.rules.specs.declared.Entered.the-variants as Entered
 use Rattle.pages.specs.Window.{acceptable}
+use Rattle.pages.specs.Owners.{given}
 use Rattle.pages.specs.Naming.{naming}
 use Rattle.pages.specs.declared.Window.{Window}
 use Rattle.parsing.specs.declared.Status.{Status}
@@ -23,9 +24,11 @@ use Rattle.setup.specs.Statuses.{ruled}
 unfoldable pub fits : Window → ℕ → Bool
 fits w cores = acceptable w && (leb 1 cores && leb cores mostCores)
 
-unfoldable pub sited : List ℕ → ℕ → ℕ → ℕ → List ℕ × Status
-sited s base pages cores =
-    ruled (λ (why : Status). (s, why)) (ready s) (not (fits (record { base = base; pages = pages }) cores)) false (fixed s base pages cores, Accepted)
+-- set-up, and the owners: every page of the window is Root's
+unfoldable pub sited : List ℕ → List ℕ → ℕ → ℕ → ℕ → (List ℕ × List ℕ) × Status
+sited s owners base pages cores =
+    ruled (λ (why : Status). ((s, owners), why)) (ready s) (not (fits (record { base = base; pages = pages }) cores)) false
+    ((fixed s base pages cores, given owners 0 pages root), Accepted)
 
 -- ---- 10 and 12: after the 11, until set-up has ended
 unfoldable pub untimely : List ℕ → Bool

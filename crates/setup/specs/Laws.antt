@@ -5,11 +5,12 @@ use mathlib.Core.List.{List}
 use Prim.Native.Nat.{ℕ, _≤_, _<_}
 use lib.Dec.{leb}
 use borrow.Author.Tests.{le-leb, lt-leb}
-use Rattle.rules.specs.Sizes.{mostCores}
+use Rattle.rules.specs.Sizes.{root, mostCores}
 use Rattle.rules.specs.Choice.{picked, passed, left-false, right-false, first-or, not-true, not-false}
 use Rattle.ledger.specs.Ledger.{entered}
 use Rattle.rules.specs.declared.Entered.{Entered}
 use Rattle.pages.specs.Window.{acceptable}
+use Rattle.pages.specs.Owners.{given}
 use Rattle.pages.specs.Naming.{naming}
 use Rattle.pages.specs.declared.Window.{Window}
 use Rattle.parsing.specs.declared.Status.{Status}
@@ -36,19 +37,19 @@ module _ (w : Window) (cores : ℕ) (a : Bool) (is : a ≡ acceptable w) where
 
 pub ruleset ranges = (unfit-window, no-core, some-cores)
 
-module _ (s : List ℕ) (base pages cores : ℕ) (r : Bool) (said : r ≡ ready s) where
-  pub site-again : r ≡ true → (s, Misplaced) ≡ sited s base pages cores
+module _ (s o : List ℕ) (base pages cores : ℕ) (r : Bool) (said : r ≡ ready s) where
+  pub site-again : r ≡ true → ((s, o), Misplaced) ≡ sited s o base pages cores
   unfolding sited
   site-again e = ruled-misplaced _ _ _ _ _ _ (sym said ∙ e) refl
 
   module _ (early : r ≡ false) (f : Bool) (is : f ≡ fits (record { base = base; pages = pages }) cores) where
-    pub site-unfit : f ≡ false → (s, OutOfRange) ≡ sited s base pages cores
+    pub site-unfit : f ≡ false → ((s, o), OutOfRange) ≡ sited s o base pages cores
     unfolding sited
     site-unfit e = ruled-outside _ _ _ _ _ _ (sym said ∙ early) (not-true _ (sym is ∙ e)) refl
 
-    pub site-fixed : (t : List ℕ) → f ≡ true → t ≡ fixed s base pages cores → (t, Accepted) ≡ sited s base pages cores
+    pub site-fixed : (t q : List ℕ) → f ≡ true → t ≡ fixed s base pages cores → q ≡ given o 0 pages root → ((t, q), Accepted) ≡ sited s o base pages cores
     unfolding sited
-    site-fixed t e h = ruled-done _ _ _ _ _ _ (sym said ∙ early) (not-false _ (sym is ∙ e)) refl (rw h)
+    site-fixed t q e h g = ruled-done _ _ _ _ _ _ (sym said ∙ early) (not-false _ (sym is ∙ e)) refl (rw (h, g))
 
 pub ruleset sites = (site-again, site-unfit, site-fixed)
 

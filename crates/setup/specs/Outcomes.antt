@@ -5,10 +5,12 @@ use mathlib.Core.List.{List}
 use Prim.Native.Nat.{ℕ}
 use native.Mathlib.Omega.{arith}
 use borrow.Author.Tests.{not-false}
+use Rattle.rules.specs.Sizes.{root}
 use Rattle.rules.specs.Choice.{chosen, not-first, not-second}
 use Rattle.ledger.specs.Ledger.{entered, refused-same}
 use Rattle.rules.specs.declared.Entered.{Entered}
 use Rattle.rules.specs.declared.Entered.the-variants as Entered
+use Rattle.pages.specs.Owners.{given}
 use Rattle.pages.specs.Naming.{naming, naming-refused}
 use Rattle.parsing.specs.declared.Status.{Status}
 use Rattle.parsing.specs.declared.Status.the-variants.{Accepted, Misplaced, OutOfRange, Clash}
@@ -22,9 +24,9 @@ unfolding untimely
 in-time s e = (not-false (ready s) (not-first (not (ready s)) (ended s) e), not-second (not (ready s)) (ended s) e)
 
 module _ (s : List ℕ) where
-  module _ (base pages cores : ℕ) (P : List ℕ × Status → Type 0) (refused : (why : Status) → (why ≡ Accepted → ⊥) → P (s, why))
-      (done : ready s ≡ false → fits (record { base = base; pages = pages }) cores ≡ true → P (fixed s base pages cores, Accepted)) where
-    pub sited-by : P (sited s base pages cores)
+  module _ (owners : List ℕ) (base pages cores : ℕ) (P : (List ℕ × List ℕ) × Status → Type 0) (refused : (why : Status) → (why ≡ Accepted → ⊥) → P ((s, owners), why))
+      (done : ready s ≡ false → fits (record { base = base; pages = pages }) cores ≡ true → P ((fixed s base pages cores, given owners 0 pages root), Accepted)) where
+    pub sited-by : P (sited s owners base pages cores)
     unfolding sited
     sited-by = ruled-by P _ _ _ _ _ refused (λ a b c. done a (not-false _ b))
 

@@ -9,6 +9,7 @@ use pages::Window;
 use parsing::Status;
 use rules::Entered;
 use rules::MOST_CORES;
+use rules::ROOT;
 
 // Whether a site was accepted, whether a call has ended set-up, and the site: base and pages of the window, and the cores.
 pub type Setup = [u64; 5];
@@ -89,9 +90,9 @@ fn is_fit(window: Window, cores: u64) -> bool
     false
 }
 
-// Frame 11: the site is fixed, once.
-pub fn fix_site(setup: &mut Setup, base: u64, pages: u64, cores: u64) -> Status
-    ensures { λ r. ⌜ (now (setup .exit), r) ≡ sited (now (setup .entry)) base pages cores ⌝ }
+// Frame 11: the site is fixed, once, and each page of its window gets Root's mark.
+pub fn fix_site(setup: &mut Setup, owners: &mut Owners, base: u64, pages: u64, cores: u64) -> Status
+    ensures { λ r. ⌜ ((now (setup .exit), now (owners .exit)), r) ≡ sited (now (setup .entry)) (now (owners .entry)) base pages cores ⌝ }
 {
     if is_ready(setup) {
         return Status::Misplaced;
@@ -99,6 +100,7 @@ pub fn fix_site(setup: &mut Setup, base: u64, pages: u64, cores: u64) -> Status
     let window = Window { base, pages };
     if is_fit(window, cores) {
         fix(setup, base, pages, cores);
+        pages::give(owners, 0, pages, ROOT);
         return Status::Accepted;
     }
     Status::OutOfRange

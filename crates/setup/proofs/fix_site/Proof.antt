@@ -16,6 +16,9 @@ is-fit-requires c κs = search needs
 fix-requires : tie.Need-fix-requires
 fix-requires c κs = search needs
 
+give-requires : tie.Need-give-requires
+give-requires c κs = search needs
+
 returns-2 : tie.Need-returns-2
 returns-2 c = search sites
 
@@ -24,4 +27,5 @@ returns-3 c = search sites
 
 pub fix-site-spec : {M : Type 1} → statement M
 fix-site-spec =
-    tie.close (tie.spec is-ready-requires returns is-fit-requires fix-requires returns-2 returns-3)
+    tie.close
+    (tie.spec is-ready-requires returns is-fit-requires fix-requires give-requires returns-2 returns-3)
