@@ -8,6 +8,7 @@
 // u WORLD VIRTUAL SIZE 0: its end
 // t FROM TO START COUNT: a transfer of pages
 // p PAGE 0 0 0: the page's owner
+// k NUMBER 0 0 0: the marks of sixteen pages, the highest first
 //
 // The first two have no name, and nothing is written of them.
 ghost use Prim.Native.Nat.{_+_, _≤_, _<_};
@@ -18,6 +19,7 @@ use mapping::Lists;
 use mapping::Mapping;
 use pages::Owners;
 use pages::Window;
+use rules::ROOT;
 use rules::Reason;
 
 // What a line asks for, and where its name begins.
@@ -39,6 +41,7 @@ struct Read {
 // What came of a step.
 enum Answer {
     Number(u64),
+    Marks(u64),
     Refused(Reason),
 }
 
@@ -52,9 +55,16 @@ fn number(sign: &[u8], n: u64) {
     say(b"\n");
 }
 
+fn marks(n: u64) {
+    say(b": ");
+    io::print_hex(STDOUT_FILENO, n, 16);
+    say(b"\n");
+}
+
 fn say_answer(a: Answer) {
     match a {
         Answer::Number(n) => number(b": ", n),
+        Answer::Marks(n) => marks(n),
         Answer::Refused(r) => number(b": -", rules::minus_of(r)),
     }
 }
@@ -206,6 +216,7 @@ fn act(w: Window, owners: &mut Owners, lists: &mut Lists, s: Step) -> Answer {
         b'u' => unmap(lists, s.a, s.b, s.c),
         b't' => transfer(w, owners, lists, s.a, s.b, s.c, s.d),
         b'p' => Answer::Number(pages::owner_of(owners, s.a)),
+        b'k' => Answer::Marks(owners[(s.a % 256) as usize]),
         _ => window(s.a, s.b),
     }
 }
@@ -236,6 +247,7 @@ fn scene(text: &[u8], at: usize) -> usize
         pages: s.b,
     };
     let mut owners = pages::fresh_owners();
+    pages::give(&mut owners, 0, w.pages, ROOT);
     let mut lists = mapping::fresh();
     let mut next = s.next;
     while next < text.len() {

@@ -17,6 +17,9 @@ step-at-requires c κs = search needs
 fresh-owners-requires : tie.Need-fresh-owners-requires Inv-loop μ-loop
 fresh-owners-requires c κs = search needs
 
+give-requires : tie.Need-give-requires Inv-loop μ-loop
+give-requires c κs = search needs
+
 fresh-requires : tie.Need-fresh-requires Inv-loop μ-loop
 fresh-requires c κs = search needs
 
@@ -49,6 +52,7 @@ scene-spec =
     μ-loop
     step-at-requires
     fresh-owners-requires
+    give-requires
     fresh-requires
     loop-holds
     shared-slice-read-if1
