@@ -1,0 +1,307 @@
+-- How the code meets the definitions: one law for each branch and each pass of a loop.
+use mathlib.Core.Path.{_≡_, refl, sym, ap, _∙_}
+use mathlib.Core.Bool.{Bool, true, false, _||_}
+use mathlib.Core.List.{List, [], _∷_, _++_}
+use Prim.Native.Nat.{ℕ, zero, suc, _+_, _-_, _*_, _/_, _%_, _^_, _≤_, _<_}
+use native.Mathlib.Nat.{pow-suc, mod-eq-of-lt, eq-or-lt-of-le}
+use mathlib.Core.Logic.{⊎-elim}
+use native.Mathlib.Numerals.{add-one}
+use native.Mathlib.Omega.{arith}
+use lib.Dec.{ltb, eqb}
+use lib.ListN.{length, getD, set, drop, length-set, List·getD-eq-default}
+use lib.Seq.{set-out, sets-eq}
+use borrow.Author.Tests.{ltb-false, eqb-false, lt-ltb, le-ltb, eq-eqb, ne-eqb}
+use Rattle.rules.specs.Sizes.{lastWorld, mostPages, worlds}
+use Rattle.rules.specs.Choice.{pick, picked, passed, chosen, first-or, second-or, neither, not-first, not-second}
+use Rattle.rules.specs.Tests.{stops, goes, ends}
+use Rattle.tools.specs.Search.{any}
+use Rattle.tools.specs.Laid.{laid}
+use Rattle.marks.specs.Digits.{digit, put, put-same, put-other, put-fits, same-digits}
+use Rattle.marks.specs.Owners.{markOf, ownerOf}
+use Rattle.conversions.specs.Conversions.{byteOf, markIn, numbersFor, cramped, strayByte, strayMark, strayBytes, strayMarks, markFor, gathered, numberFor, byteFor, listed, written, kept, packed, unpacked}
+
+-- ---- reads and writes past the end
+pub byte-here : (bytes : List ℕ) (page v : ℕ) → v ≡ getD bytes page 0 → v ≡ byteOf bytes page
+unfolding byteOf
+byte-here bytes page v e = e
+
+pub byte-past : (bytes : List ℕ) (page : ℕ) → length bytes ≤ page → 0 ≡ byteOf bytes page
+unfolding byteOf
+byte-past bytes page h = sym (List·getD-eq-default bytes 0 h)
+
+pub number-past : (numbers : List ℕ) (i : ℕ) → length numbers ≤ i → 0 ≡ getD numbers i 0
+number-past numbers i h = sym (List·getD-eq-default numbers 0 h)
+
+pub set-past : (space : List ℕ) (i v : ℕ) → length space ≤ i → space ≡ set space i v
+set-past space i v h = sym (set-out space i v h)
+
+-- ---- 88
+module _ (n bytes numbers : ℕ) where
+  pub cramped-none : n ≡ 0 → true ≡ cramped n bytes numbers
+  unfolding cramped
+  cramped-none h = sym (first-or _ _ (first-or _ _ (eq-eqb n 0 h)))
+
+  pub cramped-many : mostPages < n → true ≡ cramped n bytes numbers
+  unfolding cramped
+  cramped-many h = sym (first-or _ _ (second-or (eqb n 0) _ (lt-ltb mostPages n h)))
+
+  pub cramped-bytes : bytes < n → true ≡ cramped n bytes numbers
+  unfolding cramped
+  cramped-bytes h = sym (second-or (eqb n 0 || ltb mostPages n) _ (first-or _ _ (lt-ltb bytes n h)))
+
+  pub cramped-numbers : (k : ℕ) → k ≡ numbersFor n → numbers < k → true ≡ cramped n bytes numbers
+  unfolding cramped
+  cramped-numbers k e h = sym (second-or (eqb n 0 || ltb mostPages n) _ (second-or (ltb bytes n) _ (lt-ltb numbers (numbersFor n) (omega arith))))
+
+  pub roomy : (k : ℕ) → (n ≡ 0 → ⊥) → n ≤ mostPages → n ≤ bytes → k ≡ numbersFor n → k ≤ numbers → false ≡ cramped n bytes numbers
+  unfolding cramped
+  roomy k some most b e h =
+      sym (neither _ _ (neither _ _ (ne-eqb n 0 some) (le-ltb mostPages n most)) (neither _ _ (le-ltb bytes n b) (le-ltb numbers (numbersFor n) (omega arith))))
+
+  -- what is so where it is not
+  pub record Room : Type 0 where
+    pub some : n ≡ 0 → ⊥
+    pub most : n ≤ mostPages
+    pub bytes-fit : n ≤ bytes
+    pub numbers-fit : numbersFor n ≤ numbers
+
+  pub room : cramped n bytes numbers ≡ false → Room
+  unfolding cramped
+  room e =
+      let x = not-first (eqb n 0 || ltb mostPages n) (ltb bytes n || ltb numbers (numbersFor n)) e in
+      let y = not-second (eqb n 0 || ltb mostPages n) (ltb bytes n || ltb numbers (numbersFor n)) e in
+      record {
+        some = eqb-false n 0 (not-first (eqb n 0) (ltb mostPages n) x);
+        most = ltb-false mostPages n (not-second (eqb n 0) (ltb mostPages n) x);
+        bytes-fit = ltb-false bytes n (not-first (ltb bytes n) (ltb numbers (numbersFor n)) y);
+        numbers-fit = ltb-false numbers (numbersFor n) (not-second (ltb bytes n) (ltb numbers (numbersFor n)) y);
+      }
+
+pub ruleset crampings = (cramped-none, cramped-many, cramped-bytes, cramped-numbers, roomy)
+
+-- ---- 89
+module _ (bytes : List ℕ) (page w : ℕ) (e : w ≡ byteOf bytes page) where
+  pub byte-stray : lastWorld < w → strayByte bytes page ≡ true
+  unfolding strayByte
+  byte-stray h = rw (← e) (lt-ltb lastWorld w h)
+
+  pub byte-owner : w ≤ lastWorld → strayByte bytes page ≡ false
+  unfolding strayByte
+  byte-owner h = rw (← e) (le-ltb lastWorld w h)
+
+module _ (numbers : List ℕ) (page m : ℕ) (e : m ≡ markIn numbers page) where
+  pub mark-of-page : (n w : ℕ) → page < n → w ≡ ownerOf m → ltb lastWorld w ≡ strayMark n numbers page
+  unfolding strayMark
+  mark-of-page n w h f = picked _ _ _ _ (lt-ltb page n h) (rw (← e, ← f))
+
+  pub mark-of-none : (n : ℕ) → n ≤ page → ltb 0 m ≡ strayMark n numbers page
+  unfolding strayMark
+  mark-of-none n h = passed _ _ _ _ (le-ltb page n h) (rw (← e))
+
+  pub byte-by : (w : ℕ) → w ≡ ownerOf m → w ≡ byteFor numbers page
+  unfolding byteFor
+  byte-by w f = rw (← e) f
+
+pub mark-by : (numbers : List ℕ) (page x m : ℕ) → x ≡ getD numbers (page / 16) 0 → m ≡ digit x (page % 16) → m ≡ markIn numbers page
+unfolding markIn
+mark-by numbers page x m e f = rw (← e) f
+
+-- ---- marks and owners are small
+pub mark-small : (w : ℕ) → markOf w < 16
+unfolding markOf
+mark-small w =
+    chosen (λ (m : ℕ). m < 16) _ _ _ (λ y. omega arith)
+    (λ y. chosen (λ (m : ℕ). m < 16) _ _ _ (λ y. omega arith)
+    (λ y. chosen (λ (m : ℕ). m < 16) _ _ _ (λ y. omega arith) (λ y. chosen (λ (m : ℕ). m < 16) _ _ _ (λ y. omega arith) (λ y. omega arith))))
+
+pub owner-small : (m w : ℕ) → w ≡ ownerOf m → w < 256
+unfolding ownerOf
+owner-small m w e =
+    rw e (chosen (λ (w : ℕ). w < 256) _ _ _ (λ y. omega arith)
+    (λ y. chosen (λ (w : ℕ). w < 256) _ _ _ (λ y. omega arith)
+    (λ y. chosen (λ (w : ℕ). w < 256) _ _ _ (λ y. omega arith) (λ y. chosen (λ (w : ℕ). w < 256) _ _ _ (λ y. omega arith) (λ y. omega arith)))))
+
+-- ---- the mark for a page
+module _ (n : ℕ) (bytes : List ℕ) (page : ℕ) where
+  pub mark-here : (w m : ℕ) → page < n → w ≡ byteOf bytes page → m ≡ markOf w → m ≡ markFor n bytes page
+  unfolding markFor
+  mark-here w m h e f = picked _ _ _ _ (lt-ltb page n h) (f ∙ ap markOf e)
+
+  pub mark-past : n ≤ page → 0 ≡ markFor n bytes page
+  unfolding markFor
+  mark-past h = passed _ _ _ _ (le-ltb page n h) refl
+
+  pub mark-for-small : markFor n bytes page < 16
+  unfolding markFor
+  mark-for-small = chosen (λ (m : ℕ). m < 16) (ltb page n) _ _ (λ y. mark-small (byteOf bytes page)) (λ y. omega arith)
+
+-- ---- marks gathered in a number have their places
+module _ (f : ℕ → ℕ) (small : (page : ℕ) → f page < 16) where
+  pub gathered-fits : (a k : ℕ) → gathered f a k < 16 ^ k
+  unfolding gathered
+  gathered-fits a zero = omega arith
+  gathered-fits a (suc k) = let e = pow-suc 16 k in let r = gathered-fits (suc a) k in let s = small a in omega arith
+
+  pub gathered-digit : (a k place : ℕ) → place < k → digit (gathered f a k) place ≡ f (a + place)
+  unfolding gathered digit
+  gathered-digit a zero place h = absurd (omega arith)
+  gathered-digit a (suc k) zero h = let x = gathered f (suc a) k in let s = small a in let z : a + 0 ≡ a = omega arith in rw z (omega arith)
+  gathered-digit a (suc k) (suc place) h =
+      let x = gathered f (suc a) k in
+      let s = small a in
+      let e : (f a + 16 * x) / 16 ≡ x = omega arith in
+      let z : a + suc place ≡ suc a + place = omega arith in
+      rw (e, z) (gathered-digit (suc a) k place (omega arith))
+
+-- a number in which the marks of so many pages, from a page on, are put one by one
+unfoldable pub filled : (ℕ → ℕ) → ℕ → ℕ → ℕ → ℕ
+filled f x page zero = x
+filled f x page (suc k) = filled f (put x (page % 16) (f page)) (suc page) k
+
+module _ (f : ℕ → ℕ) (small : (page : ℕ) → f page < 16) (i : ℕ) where
+  place-is : (j : ℕ) → j < 16 → (16 * i + j) % 16 ≡ j
+  place-is j h = omega arith
+
+  next-is : (j : ℕ) → suc (16 * i + j) ≡ 16 * i + suc j
+  next-is j = omega arith
+
+  filled-fits : (x j k : ℕ) → j + k ≤ 16 → x < 16 ^ 16 → filled f x (16 * i + j) k < 16 ^ 16
+  unfolding filled
+  filled-fits x j zero h l = l
+  filled-fits x j (suc k) h l =
+      let b : j < 16 = omega arith in
+      rw (place-is j b, next-is j) (filled-fits (put x j (f (16 * i + j))) (suc j) k (omega arith) (put-fits 16 x j (f (16 * i + j)) l b (small (16 * i + j))))
+
+  filled-before : (x j k place : ℕ) → j + k ≤ 16 → place < j → digit (filled f x (16 * i + j) k) place ≡ digit x place
+  unfolding filled
+  filled-before x j zero place h l = refl
+  filled-before x j (suc k) place h l =
+      let b : j < 16 = omega arith in
+      let d : place ≡ j → ⊥ = λ e. omega arith in
+      rw (place-is j b, next-is j)
+      (filled-before (put x j (f (16 * i + j))) (suc j) k place (omega arith) (omega arith) ∙ put-other x j (f (16 * i + j)) place (small (16 * i + j)) d)
+
+  filled-here : (x j k place : ℕ) → j + k ≤ 16 → j ≤ place → place < j + k → digit (filled f x (16 * i + j) k) place ≡ f (16 * i + place)
+  unfolding filled
+  filled-here x j zero place h a l = absurd (omega arith)
+  filled-here x j (suc k) place h a l =
+      let b : j < 16 = omega arith in
+      let y = put x j (f (16 * i + j)) in
+      rw (place-is j b, next-is j)
+      (⊎-elim (λ (e : j ≡ place). rw (← e) (filled-before y (suc j) k j (omega arith) (omega arith) ∙ put-same x j (f (16 * i + j)) (small (16 * i + j))))
+      (λ (d : j < place). filled-here y (suc j) k place (omega arith) (omega arith) (omega arith)) (eq-or-lt-of-le a))
+
+  -- sixteen marks put in 0 are the sixteen marks gathered
+  filled-gathered : filled f 0 (16 * i + 0) 16 ≡ gathered f (16 * i) 16
+  filled-gathered =
+      same-digits 16 (filled f 0 (16 * i + 0) 16) (gathered f (16 * i) 16) (filled-fits 0 0 16 (omega arith) (omega arith)) (gathered-fits f small (16 * i) 16)
+      (λ place h. filled-here 0 0 16 place (omega arith) (omega arith) (omega arith) ∙ sym (gathered-digit f small (16 * i) 16 place h))
+
+-- the loop over them
+filled-next : (f : ℕ → ℕ) (x page k : ℕ) → 0 < k → filled f x page k ≡ filled f (put x (page % 16) (f page)) (page + 1) (k - 1)
+unfolding filled
+filled-next f x page zero h = absurd (omega arith)
+filled-next f x page (suc k) h = let q : suc k - 1 ≡ k = omega arith in rw (q, add-one)
+
+filled-none : (f : ℕ → ℕ) (x page k : ℕ) → k ≤ 0 → filled f x page k ≡ x
+unfolding filled
+filled-none f x page zero h = refl
+filled-none f x page (suc k) h = absurd (omega arith)
+
+pub number-starts : (n : ℕ) (bytes : List ℕ) (i : ℕ) → numberFor n bytes i ≡ filled (markFor n bytes) 0 (16 * i) 16
+unfolding numberFor
+number-starts n bytes i = let z : 16 * i + 0 ≡ 16 * i = omega arith in sym (rw z at (filled-gathered (markFor n bytes) (mark-for-small n bytes) i))
+
+module _ (n : ℕ) (bytes : List ℕ) (v x page k : ℕ) (e : v ≡ filled (markFor n bytes) x page k) where
+  pub number-goes : (m y : ℕ) → 0 < k → m ≡ markFor n bytes page → y ≡ put x (page % 16) (m % 16) → v ≡ filled (markFor n bytes) y (page + 1) (k - 1)
+  number-goes m y h f g =
+      let s : m < 16 = rw f (mark-for-small n bytes page) in
+      let z : m % 16 ≡ markFor n bytes page = mod-eq-of-lt s ∙ f in
+      rw (g, z) (e ∙ filled-next (markFor n bytes) x page k h)
+
+  pub number-ends : k ≤ 0 → x ≡ v
+  number-ends h = sym (e ∙ filled-none (markFor n bytes) x page k h)
+
+-- ---- values laid over a space one by one
+pub length-listed : (f : ℕ → ℕ) (a k : ℕ) → length (listed f a k) ≡ k
+unfolding listed
+length-listed f a zero = refl
+length-listed f a (suc k) = ap suc (length-listed f (suc a) k)
+
+laid-next : (f : ℕ → ℕ) (space : List ℕ) (i k : ℕ) → 0 < k → laid space i (listed f i k) ≡ laid (set space i (f i)) (i + 1) (listed f (i + 1) (k - 1))
+unfolding laid listed
+laid-next f space i zero h = absurd (omega arith)
+laid-next f space i (suc k) h = let q : suc k - 1 ≡ k = omega arith in rw (q, add-one)
+
+laid-none : (f : ℕ → ℕ) (space : List ℕ) (i k : ℕ) → k ≤ 0 → laid space i (listed f i k) ≡ space
+unfolding laid listed
+laid-none f space i zero h = refl
+laid-none f space i (suc k) h = absurd (omega arith)
+
+-- a loop has written some of the space o, which is p now: what is left, laid from place i on, makes w of it
+pub record Laying (o w p : List ℕ) (f : ℕ → ℕ) (i k : ℕ) : Type 0 where
+  pub long : length p ≡ length o
+  pub makes : w ≡ laid p i (listed f i k)
+
+pub laying-starts : (o : List ℕ) (f : ℕ → ℕ) (k : ℕ) → Laying o (laid o 0 (listed f 0 k)) o f 0 k
+laying-starts o f k = record { long = refl; makes = refl }
+
+module _ (o w p : List ℕ) (f : ℕ → ℕ) (i k : ℕ) (l : Laying o w p f i k) where
+  pub laying-goes : (p′ : List ℕ) (v : ℕ) → 0 < k → v ≡ f i → p′ ≡ set p i v → Laying o w p′ f (i + 1) (k - 1)
+  laying-goes p′ v h e g =
+      record { long = ap length g ∙ length-set p i v ∙ l .long; makes = l .makes ∙ laid-next f p i k h ∙ rw (g, e) refl }
+
+  pub laying-ends : k ≤ 0 → p ≡ w
+  laying-ends h = sym (l .makes ∙ laid-none f p i k h)
+
+-- ---- the outcomes
+-- what is laid over the first places of a space that has so many is what is written there
+laid-written : (f : ℕ → ℕ) (k : ℕ) (space : List ℕ) → k ≤ length space → laid space 0 (listed f 0 k) ≡ written f k space
+unfolding laid written
+laid-written f k space h =
+    let e = length-listed f 0 k in
+    let z : 0 + length (listed f 0 k) ≤ length space = omega arith in
+    let y : 0 + length (listed f 0 k) ≡ k = omega arith in
+    sets-eq (listed f 0 k) space 0 z ∙ rw y
+
+module _ (n : ℕ) (bytes numbers : List ℕ) (a : Bool) (e : a ≡ cramped n (length bytes) (length numbers)) where
+  pub pack-cramped : a ≡ true → (0x88, numbers) ≡ packed n bytes numbers
+  unfolding packed kept
+  pack-cramped y = stops _ _ _ _ _ _ (sym e ∙ y) refl
+
+  pub unpack-cramped : a ≡ true → (0x88, bytes) ≡ unpacked n numbers bytes
+  unfolding unpacked kept
+  unpack-cramped y = stops _ _ _ _ _ _ (sym e ∙ y) refl
+
+  module _ (r : a ≡ false) where
+    pub few-numbers : (k : ℕ) → k ≡ numbersFor n → k ≤ 256
+    few-numbers k c = let h = room n (length bytes) (length numbers) (sym e ∙ r) .most in omega arith
+
+    module _ (b : Bool) (f : b ≡ strayBytes n bytes) where
+      pub pack-stray : b ≡ true → (0x89, numbers) ≡ packed n bytes numbers
+      unfolding packed kept
+      pack-stray y = goes _ _ _ _ _ _ (sym e ∙ r) (stops _ _ _ _ _ _ (sym f ∙ y) refl)
+
+      pub pack-done : (k : ℕ) (p : List ℕ) → b ≡ false → k ≡ numbersFor n → p ≡ laid numbers 0 (listed (numberFor n bytes) 0 k) → (0, p) ≡ packed n bytes numbers
+      unfolding packed
+      pack-done k p z c g =
+          goes _ _ _ _ _ _ (sym e ∙ r)
+          (goes _ _ _ _ _ _ (sym f ∙ z) (ends _ _ _
+          (rw (g, c, laid-written (numberFor n bytes) (numbersFor n) numbers (room n (length bytes) (length numbers) (sym e ∙ r) .numbers-fit)))))
+
+    module _ (b : Bool) (k : ℕ) (c : k ≡ numbersFor n) (f : b ≡ any (strayMark n numbers) 0 (16 * k)) where
+      are-stray : b ≡ strayMarks n numbers
+      unfolding strayMarks
+      are-stray = rw (← c) f
+
+      pub unpack-stray : b ≡ true → (0x89, bytes) ≡ unpacked n numbers bytes
+      unfolding unpacked kept
+      unpack-stray y = goes _ _ _ _ _ _ (sym e ∙ r) (stops _ _ _ _ _ _ (sym are-stray ∙ y) refl)
+
+      pub unpack-done : (p : List ℕ) → b ≡ false → p ≡ laid bytes 0 (listed (byteFor numbers) 0 n) → (0, p) ≡ unpacked n numbers bytes
+      unfolding unpacked
+      unpack-done p z g =
+          goes _ _ _ _ _ _ (sym e ∙ r)
+          (goes _ _ _ _ _ _ (sym are-stray ∙ z) (ends _ _ _ (rw (g, laid-written (byteFor numbers) n bytes (room n (length bytes) (length numbers) (sym e ∙ r) .bytes-fit)))))
+
+pub ruleset outcomes = (pack-cramped, pack-stray, pack-done, unpack-cramped, unpack-stray, unpack-done)
