@@ -9,18 +9,18 @@ use native.Mathlib.Numerals.{add-one}
 use native.Mathlib.Omega.{arith}
 use lib.Dec.{ltb, eqb}
 use lib.ListN.{length, getD, set, drop, length-set, List·getD-eq-default}
-use lib.Seq.{set-out, sets-eq}
+use lib.Seq.{sets-eq}
 use borrow.Author.Tests.{ltb-false, eqb-false, lt-ltb, le-ltb, eq-eqb, ne-eqb}
 use Rattle.rules.specs.Sizes.{lastWorld, mostPages, worlds}
 use Rattle.rules.specs.Choice.{pick, picked, passed, chosen, first-or, second-or, neither, not-first, not-second}
 use Rattle.rules.specs.Tests.{stops, goes, ends}
 use Rattle.tools.specs.Search.{any}
-use Rattle.tools.specs.Laid.{laid}
-use Rattle.marks.specs.Digits.{digit, put, put-same, put-other, put-fits, same-digits}
+use Rattle.tools.specs.Laid.{laid, laid-past}
+use Rattle.marks.specs.Digits.{digit, put, zero-digit, put-same, put-other, put-fits, same-digits}
 use Rattle.marks.specs.Owners.{markOf, ownerOf}
 use Rattle.conversions.specs.Conversions.{byteOf, markIn, numbersFor, cramped, strayByte, strayMark, strayBytes, strayMarks, markFor, gathered, numberFor, byteFor, listed, written, kept, packed, unpacked}
 
--- ---- reads and writes past the end
+-- ---- a byte read, and one past the end
 pub byte-here : (bytes : List ℕ) (page v : ℕ) → v ≡ getD bytes page 0 → v ≡ byteOf bytes page
 unfolding byteOf
 byte-here bytes page v e = e
@@ -28,12 +28,6 @@ byte-here bytes page v e = e
 pub byte-past : (bytes : List ℕ) (page : ℕ) → length bytes ≤ page → 0 ≡ byteOf bytes page
 unfolding byteOf
 byte-past bytes page h = sym (List·getD-eq-default bytes 0 h)
-
-pub number-past : (numbers : List ℕ) (i : ℕ) → length numbers ≤ i → 0 ≡ getD numbers i 0
-number-past numbers i h = sym (List·getD-eq-default numbers 0 h)
-
-pub set-past : (space : List ℕ) (i v : ℕ) → length space ≤ i → space ≡ set space i v
-set-past space i v h = sym (set-out space i v h)
 
 -- ---- 88
 module _ (n bytes numbers : ℕ) where
@@ -102,9 +96,13 @@ module _ (numbers : List ℕ) (page m : ℕ) (e : m ≡ markIn numbers page) whe
   unfolding byteFor
   byte-by w f = rw (← e) f
 
-pub mark-by : (numbers : List ℕ) (page x m : ℕ) → x ≡ getD numbers (page / 16) 0 → m ≡ digit x (page % 16) → m ≡ markIn numbers page
+pub mark-read : (numbers : List ℕ) (page i m : ℕ) → i ≡ page / 16 → m ≡ digit (getD numbers i 0) (page % 16) → m ≡ markIn numbers page
 unfolding markIn
-mark-by numbers page x m e f = rw (← e) f
+mark-read numbers page i m e f = rw (← e) f
+
+pub mark-missing : (numbers : List ℕ) (page i : ℕ) → i ≡ page / 16 → length numbers ≤ i → 0 ≡ markIn numbers page
+unfolding markIn
+mark-missing numbers page i e h = sym (rw (← e, List·getD-eq-default numbers 0 h) (zero-digit (page % 16)))
 
 -- ---- marks and owners are small
 pub mark-small : (w : ℕ) → markOf w < 16
@@ -247,9 +245,12 @@ pub laying-starts : (o : List ℕ) (f : ℕ → ℕ) (k : ℕ) → Laying o (lai
 laying-starts o f k = record { long = refl; makes = refl }
 
 module _ (o w p : List ℕ) (f : ℕ → ℕ) (i k : ℕ) (l : Laying o w p f i k) where
-  pub laying-goes : (p′ : List ℕ) (v : ℕ) → 0 < k → v ≡ f i → p′ ≡ set p i v → Laying o w p′ f (i + 1) (k - 1)
-  laying-goes p′ v h e g =
-      record { long = ap length g ∙ length-set p i v ∙ l .long; makes = l .makes ∙ laid-next f p i k h ∙ rw (g, e) refl }
+  pub laying-goes : (v : ℕ) → 0 < k → v ≡ f i → Laying o w (set p i v) f (i + 1) (k - 1)
+  laying-goes v h e = record { long = length-set p i v ∙ l .long; makes = l .makes ∙ laid-next f p i k h ∙ rw e refl }
+
+  -- past the end nothing is written
+  pub laying-past : length p ≤ i → p ≡ w
+  laying-past h = sym (l .makes ∙ laid-past (listed f i k) p i h)
 
   pub laying-ends : k ≤ 0 → p ≡ w
   laying-ends h = sym (l .makes ∙ laid-none f p i k h)

@@ -1,6 +1,5 @@
 // The old table: a byte for each page, its owner.
 ghost use mathlib.Core.Path.{_≡_};
-ghost use lib.ListN.{set};
 ghost use Rattle.tools.specs.Laid.{laid};
 ghost use Rattle.conversions.specs.Conversions.{byteOf, strayBytes, byteFor, listed};
 use crate::numbers;
@@ -14,16 +13,6 @@ pub(crate) fn owner(bytes: &[u8], page: u64) -> u64
         return 0;
     }
     tools::wide(bytes[page as usize])
-}
-
-// Gives a page an owner; past the end nothing is written.
-fn set_owner(bytes: &mut [u8], page: u64, owner: u8)
-    ensures { λ _. ⌜ now (bytes .exit) ≡ set (now (bytes .entry)) page owner ⌝ }
-{
-    if bytes.len() <= page as usize {
-        return;
-    }
-    bytes[page as usize] = owner;
 }
 
 // Whether one of the first n bytes is no owner.
@@ -49,15 +38,17 @@ fn byte_for(numbers: &[u64], page: u64) -> u8
     marks::owner_of(numbers::mark(numbers, page)) as u8
 }
 
-// Lays the owners of the first n pages over the bytes.
+// Lays the owners of the first n pages over the bytes, as far as these reach.
 pub(crate) fn lay(n: u64, numbers: &[u64], bytes: &mut [u8])
     ensures { λ _. ⌜ now (bytes .exit) ≡ laid (now (bytes .entry)) 0 (listed (byteFor (now (numbers .entry))) 0 n) ⌝ }
 {
     let mut page: u64 = 0;
     let mut unwritten = n;
     while 0 < unwritten {
-        let owner = byte_for(numbers, page);
-        set_owner(bytes, page, owner);
+        if bytes.len() <= page as usize {
+            return;
+        }
+        bytes[page as usize] = byte_for(numbers, page);
         page += 1;
         unwritten -= 1;
     }

@@ -1,38 +1,21 @@
 // The packed table: sixteen marks in a number, that of the lowest page in the lowest bits.
 ghost use mathlib.Core.Path.{_≡_};
 ghost use Prim.Native.Nat.{_≤_, _<_, _*_};
-ghost use lib.ListN.{getD, set};
 ghost use Rattle.tools.specs.Search.{any};
 ghost use Rattle.tools.specs.Laid.{laid};
 ghost use Rattle.conversions.specs.Conversions.{markIn, strayMark, markFor, numberFor, listed};
 use crate::bytes;
 use rules::REALM;
 
-// The number at a place; 0 past the end.
-fn number(numbers: &[u64], i: u64) -> u64
-    ensures { λ r. ⌜ r ≡ getD (now (numbers .entry)) i 0 ⌝ }
-{
-    if numbers.len() <= i as usize {
-        return 0;
-    }
-    numbers[i as usize]
-}
-
-// Writes the number at a place; past the end nothing is written.
-fn set_number(numbers: &mut [u64], i: u64, number: u64)
-    ensures { λ _. ⌜ now (numbers .exit) ≡ set (now (numbers .entry)) i number ⌝ }
-{
-    if numbers.len() <= i as usize {
-        return;
-    }
-    numbers[i as usize] = number;
-}
-
-// The mark of a page.
+// The mark of a page; 0 past the end.
 pub(crate) fn mark(numbers: &[u64], page: u64) -> u64
     ensures { λ r. ⌜ r ≡ markIn (now (numbers .entry)) page ⌝ }
 {
-    marks::read(number(numbers, page / 16), page)
+    let i = (page / 16) as usize;
+    if numbers.len() <= i {
+        return 0;
+    }
+    marks::read(numbers[i], page)
 }
 
 // Whether a mark is wrong: that of a page which is no owner's, or one past the last of n pages that is not 0.
@@ -89,7 +72,7 @@ fn number_for(n: u64, bytes: &[u8], i: u64) -> u64
     number
 }
 
-// Lays so many numbers of the marks of n pages over the numbers.
+// Lays so many numbers, with the marks of n pages, over the numbers, as far as these reach.
 pub(crate) fn lay(n: u64, bytes: &[u8], numbers: &mut [u64], count: u64)
     requires { ⌜ count ≤ 256 ⌝ }
     ensures { λ _. ⌜ now (numbers .exit) ≡ laid (now (numbers .entry)) 0 (listed (numberFor n (now (bytes .entry))) 0 count) ⌝ }
@@ -97,8 +80,10 @@ pub(crate) fn lay(n: u64, bytes: &[u8], numbers: &mut [u64], count: u64)
     let mut i: u64 = 0;
     let mut unwritten = count;
     while 0 < unwritten {
-        let number = number_for(n, bytes, i);
-        set_number(numbers, i, number);
+        if numbers.len() <= i as usize {
+            return;
+        }
+        numbers[i as usize] = number_for(n, bytes, i);
         i += 1;
         unwritten -= 1;
     }

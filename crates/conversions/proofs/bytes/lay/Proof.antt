@@ -2,7 +2,7 @@
 use mathlib.Core.Path.{_≡_}
 use Prim.Native.Nat.{_+_}
 use Rattle.tools.specs.Laid.{laid}
-use Rattle.conversions.specs.Laws.{Laying, laying-starts, laying-goes, laying-ends}
+use Rattle.conversions.specs.Laws.{Laying, laying-starts, laying-goes, laying-past, laying-ends}
 use Rattle.conversions.specs.Conversions.{byteFor, listed}
 use borrow.Author.Needs.{needs}
 use Rattle.conversions.proofs.bytes.lay.Statement.{statement}
@@ -17,11 +17,17 @@ abbrev μ-loop : tie.MeasureT-loop
 loop-holds : tie.Need-loop-holds Inv-loop μ-loop
 loop-holds c = (search needs, laying-starts _ _ _)
 
+same-length : tie.Need-same-length Inv-loop μ-loop
+same-length c = search needs
+
+returns : tie.Need-returns Inv-loop μ-loop
+returns c = laying-past _ _ _ _ _ _ (c .before .before .loop .inv .1) (search needs)
+
 byte-for-requires : tie.Need-byte-for-requires Inv-loop μ-loop
 byte-for-requires c κs = search needs
 
-set-owner-requires : tie.Need-set-owner-requires Inv-loop μ-loop
-set-owner-requires c κs = search needs
+slice-write-bytes : tie.Need-slice-write-bytes Inv-loop μ-loop
+slice-write-bytes c = search needs
 
 add-page : tie.Need-add-page Inv-loop μ-loop
 add-page c = search needs
@@ -33,13 +39,13 @@ loop-less : tie.Need-loop-less Inv-loop μ-loop
 loop-less c = search needs
 
 loop-again : tie.Need-loop-again Inv-loop μ-loop
-loop-again c = (search needs, search (laying-goes, needs))
+loop-again c = (search needs, laying-goes _ _ _ _ _ _ (c .before .before .before .loop .inv .1) _ (search needs) (search needs))
 
-same-length : tie.Need-same-length Inv-loop μ-loop
-same-length c = c .before .loop .inv .1 .long
+same-length-2 : tie.Need-same-length-2 Inv-loop μ-loop
+same-length-2 c = search needs
 
-returns : tie.Need-returns Inv-loop μ-loop
-returns c = laying-ends _ _ _ _ _ _ (c .before .loop .inv .1) (search needs)
+returns-2 : tie.Need-returns-2 Inv-loop μ-loop
+returns-2 c = laying-ends _ _ _ _ _ _ (c .before .loop .inv .1) (search needs)
 
 pub lay-spec : {M : Type 1} → statement M
 lay-spec =
@@ -48,11 +54,13 @@ lay-spec =
     Inv-loop
     μ-loop
     loop-holds
+    same-length
+    returns
     byte-for-requires
-    set-owner-requires
+    slice-write-bytes
     add-page
     sub-unwritten
     loop-less
     loop-again
-    same-length
-    returns)
+    same-length-2
+    returns-2)

@@ -2,7 +2,7 @@
 use mathlib.Core.Path.{_≡_}
 use Prim.Native.Nat.{_+_}
 use Rattle.tools.specs.Laid.{laid}
-use Rattle.conversions.specs.Laws.{Laying, laying-starts, laying-goes, laying-ends}
+use Rattle.conversions.specs.Laws.{Laying, laying-starts, laying-goes, laying-past, laying-ends}
 use Rattle.conversions.specs.Conversions.{numberFor, listed}
 use borrow.Author.Needs.{needs}
 use Rattle.conversions.proofs.numbers.lay.Statement.{statement}
@@ -17,11 +17,20 @@ abbrev μ-loop : tie.MeasureT-loop
 loop-holds : tie.Need-loop-holds Inv-loop μ-loop
 loop-holds c = (search needs, laying-starts _ _ _)
 
+same-length : tie.Need-same-length Inv-loop μ-loop
+same-length c = search needs
+
+returns : tie.Need-returns Inv-loop μ-loop
+returns c = laying-past _ _ _ _ _ _ (c .before .before .loop .inv .1) (search needs)
+
 number-for-requires : tie.Need-number-for-requires Inv-loop μ-loop
 number-for-requires c κs = search needs
 
-set-number-requires : tie.Need-set-number-requires Inv-loop μ-loop
-set-number-requires c κs = search needs
+mul-numbers : tie.Need-mul-numbers Inv-loop μ-loop
+mul-numbers c = search needs
+
+slice-write-numbers : tie.Need-slice-write-numbers Inv-loop μ-loop
+slice-write-numbers c = search needs
 
 add-i : tie.Need-add-i Inv-loop μ-loop
 add-i c = search needs
@@ -33,13 +42,13 @@ loop-less : tie.Need-loop-less Inv-loop μ-loop
 loop-less c = search needs
 
 loop-again : tie.Need-loop-again Inv-loop μ-loop
-loop-again c = (search needs, search (laying-goes, needs))
+loop-again c = (search needs, laying-goes _ _ _ _ _ _ (c .before .before .before .loop .inv .1) _ (search needs) (search needs))
 
-same-length : tie.Need-same-length Inv-loop μ-loop
-same-length c = c .before .loop .inv .1 .long
+same-length-2 : tie.Need-same-length-2 Inv-loop μ-loop
+same-length-2 c = search needs
 
-returns : tie.Need-returns Inv-loop μ-loop
-returns c = laying-ends _ _ _ _ _ _ (c .before .loop .inv .1) (search needs)
+returns-2 : tie.Need-returns-2 Inv-loop μ-loop
+returns-2 c = laying-ends _ _ _ _ _ _ (c .before .loop .inv .1) (search needs)
 
 pub lay-spec : {M : Type 1} → statement M
 lay-spec =
@@ -48,11 +57,14 @@ lay-spec =
     Inv-loop
     μ-loop
     loop-holds
+    same-length
+    returns
     number-for-requires
-    set-number-requires
+    mul-numbers
+    slice-write-numbers
     add-i
     sub-unwritten
     loop-less
     loop-again
-    same-length
-    returns)
+    same-length-2
+    returns-2)
