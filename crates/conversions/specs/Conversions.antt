@@ -1,4 +1,4 @@
--- The owners of n pages, as a byte each or as a mark each, and the two conversions between these: what is answered, and what is left in the space that is written. Definitions alone: what follows from them is in Laws and in the crate `round_trips`.
+-- The owners of n pages, as a byte each or as a mark each, and the two conversions between them: what is answered, and what is left in the space that is written.
 use mathlib.Core.Bool.{Bool, _||_}
 use mathlib.Core.List.{List, [], _∷_, _++_}
 use Prim.Native.Nat.{ℕ, zero, suc, _+_, _*_, _/_, _%_}
@@ -6,7 +6,7 @@ use lib.Dec.{ltb, eqb}
 use lib.ListN.{length, getD, drop}
 use Rattle.rules.specs.Sizes.{lastWorld, mostPages}
 use Rattle.rules.specs.Choice.{pick}
-use Rattle.rules.specs.Tests.{Test, refuses, sieve}
+use Rattle.rules.specs.Tests.{refuses, sieve}
 use Rattle.tools.specs.Search.{any}
 use Rattle.marks.specs.Digits.{digit}
 use Rattle.marks.specs.Owners.{markOf, ownerOf}

@@ -1,24 +1,22 @@
 -- How the code meets the definitions: one law for each branch and each pass of a loop.
 use mathlib.Core.Path.{_≡_, refl, sym, ap, _∙_}
-use mathlib.Core.Bool.{Bool, true, false, _||_}
-use mathlib.Core.List.{List, [], _∷_, _++_}
+use mathlib.Core.Bool.{true, false}
+use mathlib.Core.List.{List}
 use Prim.Native.Nat.{ℕ, zero, suc, _+_, _-_, _*_, _/_, _%_, _^_, _≤_, _<_}
 use native.Mathlib.Nat.{pow-suc, mod-eq-of-lt, eq-or-lt-of-le}
 use mathlib.Core.Logic.{⊎-elim}
 use native.Mathlib.Numerals.{add-one}
 use native.Mathlib.Omega.{arith}
-use lib.Dec.{ltb, eqb}
-use lib.ListN.{length, getD, set, drop, length-set, List·getD-eq-default}
+use lib.Dec.{ltb}
+use lib.ListN.{length, getD, set, length-set, List·getD-eq-default}
 use lib.Seq.{sets-eq}
-use borrow.Author.Tests.{ltb-false, eqb-false, lt-ltb, le-ltb, eq-eqb, ne-eqb}
-use Rattle.rules.specs.Sizes.{lastWorld, mostPages, worlds}
-use Rattle.rules.specs.Choice.{pick, picked, passed, chosen, first-or, second-or, neither, not-first, not-second}
-use Rattle.rules.specs.Tests.{stops, goes, ends}
-use Rattle.tools.specs.Search.{any}
+use borrow.Author.Tests.{lt-ltb, le-ltb}
+use Rattle.rules.specs.Sizes.{lastWorld}
+use Rattle.rules.specs.Choice.{picked, passed, chosen}
 use Rattle.tools.specs.Laid.{laid, laid-past}
 use Rattle.marks.specs.Digits.{digit, put, zero-digit, put-same, put-other, put-fits, same-digits}
 use Rattle.marks.specs.Owners.{markOf, ownerOf}
-use Rattle.conversions.specs.Conversions.{byteOf, markIn, numbersFor, cramped, strayByte, strayMark, strayBytes, strayMarks, markFor, gathered, numberFor, byteFor, listed, written, kept, packed, unpacked}
+use Rattle.conversions.specs.Conversions.{byteOf, markIn, strayByte, strayMark, markFor, gathered, numberFor, byteFor, listed, written}
 
 -- ---- a byte read, and one past the end
 pub byte-here : (bytes : List ℕ) (page v : ℕ) → v ≡ getD bytes page 0 → v ≡ byteOf bytes page
@@ -28,50 +26,6 @@ byte-here bytes page v e = e
 pub byte-past : (bytes : List ℕ) (page : ℕ) → length bytes ≤ page → 0 ≡ byteOf bytes page
 unfolding byteOf
 byte-past bytes page h = sym (List·getD-eq-default bytes 0 h)
-
--- ---- 88
-module _ (n bytes numbers : ℕ) where
-  pub cramped-none : n ≡ 0 → true ≡ cramped n bytes numbers
-  unfolding cramped
-  cramped-none h = sym (first-or _ _ (first-or _ _ (eq-eqb n 0 h)))
-
-  pub cramped-many : mostPages < n → true ≡ cramped n bytes numbers
-  unfolding cramped
-  cramped-many h = sym (first-or _ _ (second-or (eqb n 0) _ (lt-ltb mostPages n h)))
-
-  pub cramped-bytes : bytes < n → true ≡ cramped n bytes numbers
-  unfolding cramped
-  cramped-bytes h = sym (second-or (eqb n 0 || ltb mostPages n) _ (first-or _ _ (lt-ltb bytes n h)))
-
-  pub cramped-numbers : (k : ℕ) → k ≡ numbersFor n → numbers < k → true ≡ cramped n bytes numbers
-  unfolding cramped
-  cramped-numbers k e h = sym (second-or (eqb n 0 || ltb mostPages n) _ (second-or (ltb bytes n) _ (lt-ltb numbers (numbersFor n) (omega arith))))
-
-  pub roomy : (k : ℕ) → (n ≡ 0 → ⊥) → n ≤ mostPages → n ≤ bytes → k ≡ numbersFor n → k ≤ numbers → false ≡ cramped n bytes numbers
-  unfolding cramped
-  roomy k some most b e h =
-      sym (neither _ _ (neither _ _ (ne-eqb n 0 some) (le-ltb mostPages n most)) (neither _ _ (le-ltb bytes n b) (le-ltb numbers (numbersFor n) (omega arith))))
-
-  -- what is so where it is not
-  pub record Room : Type 0 where
-    pub some : n ≡ 0 → ⊥
-    pub most : n ≤ mostPages
-    pub bytes-fit : n ≤ bytes
-    pub numbers-fit : numbersFor n ≤ numbers
-
-  pub room : cramped n bytes numbers ≡ false → Room
-  unfolding cramped
-  room e =
-      let x = not-first (eqb n 0 || ltb mostPages n) (ltb bytes n || ltb numbers (numbersFor n)) e in
-      let y = not-second (eqb n 0 || ltb mostPages n) (ltb bytes n || ltb numbers (numbersFor n)) e in
-      record {
-        some = eqb-false n 0 (not-first (eqb n 0) (ltb mostPages n) x);
-        most = ltb-false mostPages n (not-second (eqb n 0) (ltb mostPages n) x);
-        bytes-fit = ltb-false bytes n (not-first (ltb bytes n) (ltb numbers (numbersFor n)) y);
-        numbers-fit = ltb-false numbers (numbersFor n) (not-second (ltb bytes n) (ltb numbers (numbersFor n)) y);
-      }
-
-pub ruleset crampings = (cramped-none, cramped-many, cramped-bytes, cramped-numbers, roomy)
 
 -- ---- 89
 module _ (bytes : List ℕ) (page w : ℕ) (e : w ≡ byteOf bytes page) where
@@ -255,54 +209,11 @@ module _ (o w p : List ℕ) (f : ℕ → ℕ) (i k : ℕ) (l : Laying o w p f i 
   pub laying-ends : k ≤ 0 → p ≡ w
   laying-ends h = sym (l .makes ∙ laid-none f p i k h)
 
--- ---- the outcomes
--- what is laid over the first places of a space that has so many is what is written there
-laid-written : (f : ℕ → ℕ) (k : ℕ) (space : List ℕ) → k ≤ length space → laid space 0 (listed f 0 k) ≡ written f k space
+-- ---- what is laid over the first places of a space that has so many is what is written there
+pub laid-written : (f : ℕ → ℕ) (k : ℕ) (space : List ℕ) → k ≤ length space → laid space 0 (listed f 0 k) ≡ written f k space
 unfolding laid written
 laid-written f k space h =
     let e = length-listed f 0 k in
     let z : 0 + length (listed f 0 k) ≤ length space = omega arith in
     let y : 0 + length (listed f 0 k) ≡ k = omega arith in
     sets-eq (listed f 0 k) space 0 z ∙ rw y
-
-module _ (n : ℕ) (bytes numbers : List ℕ) (a : Bool) (e : a ≡ cramped n (length bytes) (length numbers)) where
-  pub pack-cramped : a ≡ true → (0x88, numbers) ≡ packed n bytes numbers
-  unfolding packed kept
-  pack-cramped y = stops _ _ _ _ _ _ (sym e ∙ y) refl
-
-  pub unpack-cramped : a ≡ true → (0x88, bytes) ≡ unpacked n numbers bytes
-  unfolding unpacked kept
-  unpack-cramped y = stops _ _ _ _ _ _ (sym e ∙ y) refl
-
-  module _ (r : a ≡ false) where
-    pub few-numbers : (k : ℕ) → k ≡ numbersFor n → k ≤ 256
-    few-numbers k c = let h = room n (length bytes) (length numbers) (sym e ∙ r) .most in omega arith
-
-    module _ (b : Bool) (f : b ≡ strayBytes n bytes) where
-      pub pack-stray : b ≡ true → (0x89, numbers) ≡ packed n bytes numbers
-      unfolding packed kept
-      pack-stray y = goes _ _ _ _ _ _ (sym e ∙ r) (stops _ _ _ _ _ _ (sym f ∙ y) refl)
-
-      pub pack-done : (k : ℕ) (p : List ℕ) → b ≡ false → k ≡ numbersFor n → p ≡ laid numbers 0 (listed (numberFor n bytes) 0 k) → (0, p) ≡ packed n bytes numbers
-      unfolding packed
-      pack-done k p z c g =
-          goes _ _ _ _ _ _ (sym e ∙ r)
-          (goes _ _ _ _ _ _ (sym f ∙ z) (ends _ _ _
-          (rw (g, c, laid-written (numberFor n bytes) (numbersFor n) numbers (room n (length bytes) (length numbers) (sym e ∙ r) .numbers-fit)))))
-
-    module _ (b : Bool) (k : ℕ) (c : k ≡ numbersFor n) (f : b ≡ any (strayMark n numbers) 0 (16 * k)) where
-      are-stray : b ≡ strayMarks n numbers
-      unfolding strayMarks
-      are-stray = rw (← c) f
-
-      pub unpack-stray : b ≡ true → (0x89, bytes) ≡ unpacked n numbers bytes
-      unfolding unpacked kept
-      unpack-stray y = goes _ _ _ _ _ _ (sym e ∙ r) (stops _ _ _ _ _ _ (sym are-stray ∙ y) refl)
-
-      pub unpack-done : (p : List ℕ) → b ≡ false → p ≡ laid bytes 0 (listed (byteFor numbers) 0 n) → (0, p) ≡ unpacked n numbers bytes
-      unfolding unpacked
-      unpack-done p z g =
-          goes _ _ _ _ _ _ (sym e ∙ r)
-          (goes _ _ _ _ _ _ (sym are-stray ∙ z) (ends _ _ _ (rw (g, laid-written (byteFor numbers) n bytes (room n (length bytes) (length numbers) (sym e ∙ r) .bytes-fit)))))
-
-pub ruleset outcomes = (pack-cramped, pack-stray, pack-done, unpack-cramped, unpack-stray, unpack-done)

@@ -16,11 +16,11 @@ pub(crate) fn owner(bytes: &[u8], page: u64) -> u64
 }
 
 // Whether one of the first n bytes is no owner.
-pub(crate) fn has_stray(n: u64, bytes: &[u8]) -> bool
+pub fn has_stray_byte(n: u32, bytes: &[u8]) -> bool
     ensures { λ r. ⌜ r ≡ strayBytes n (now (bytes .entry)) ⌝ }
 {
     let mut page: u64 = 0;
-    let mut unseen = n;
+    let mut unseen = n as u64;
     while 0 < unseen {
         if REALM < owner(bytes, page) {
             return true;
@@ -39,11 +39,11 @@ fn byte_for(numbers: &[u64], page: u64) -> u8
 }
 
 // Lays the owners of the first n pages over the bytes, as far as these reach.
-pub(crate) fn lay(n: u64, numbers: &[u64], bytes: &mut [u8])
+pub fn lay_bytes(n: u32, numbers: &[u64], bytes: &mut [u8])
     ensures { λ _. ⌜ now (bytes .exit) ≡ laid (now (bytes .entry)) 0 (listed (byteFor (now (numbers .entry))) 0 n) ⌝ }
 {
     let mut page: u64 = 0;
-    let mut unwritten = n;
+    let mut unwritten = n as u64;
     while 0 < unwritten {
         if bytes.len() <= page as usize {
             return;

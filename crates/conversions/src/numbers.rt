@@ -1,9 +1,8 @@
 // The packed table: sixteen marks in a number, that of the lowest page in the lowest bits.
 ghost use mathlib.Core.Path.{_≡_};
-ghost use Prim.Native.Nat.{_≤_, _<_, _*_};
-ghost use Rattle.tools.specs.Search.{any};
+ghost use Prim.Native.Nat.{_≤_, _<_};
 ghost use Rattle.tools.specs.Laid.{laid};
-ghost use Rattle.conversions.specs.Conversions.{markIn, strayMark, markFor, numberFor, listed};
+ghost use Rattle.conversions.specs.Conversions.{markIn, numbersFor, strayMark, strayMarks, markFor, numberFor, listed};
 use crate::bytes;
 use rules::REALM;
 
@@ -29,15 +28,21 @@ fn is_stray(n: u64, numbers: &[u64], page: u64) -> bool
     REALM < marks::owner_of(mark)
 }
 
-// Whether one of the marks of so many numbers is wrong.
-pub(crate) fn has_stray(n: u64, numbers: &[u64], count: u64) -> bool
-    requires { ⌜ count ≤ 256 ⌝ }
-    ensures { λ r. ⌜ r ≡ any (strayMark n (now (numbers .entry))) 0 (16 * count) ⌝ }
+// How many numbers the marks of n pages take: one that is begun is needed whole.
+fn numbers_for(n: u32) -> u64
+    ensures { λ r. ⌜ (r ≡ numbersFor n) × (r ≤ 0x10000000) ⌝ }
+{
+    (n as u64 + 15) / 16
+}
+
+// Whether one of the marks of the numbers that n pages take is wrong.
+pub fn has_stray_mark(n: u32, numbers: &[u64]) -> bool
+    ensures { λ r. ⌜ r ≡ strayMarks n (now (numbers .entry)) ⌝ }
 {
     let mut page: u64 = 0;
-    let mut unseen = 16 * count;
+    let mut unseen = 16 * numbers_for(n);
     while 0 < unseen {
-        if is_stray(n, numbers, page) {
+        if is_stray(n as u64, numbers, page) {
             return true;
         }
         page += 1;
@@ -58,7 +63,7 @@ fn mark_for(n: u64, bytes: &[u8], page: u64) -> u64
 
 // The number at a place: the marks of sixteen pages.
 fn number_for(n: u64, bytes: &[u8], i: u64) -> u64
-    requires { ⌜ i < 256 ⌝ }
+    requires { ⌜ i < 0x10000000 ⌝ }
     ensures { λ r. ⌜ r ≡ numberFor n (now (bytes .entry)) i ⌝ }
 {
     let mut number: u64 = 0;
@@ -72,18 +77,17 @@ fn number_for(n: u64, bytes: &[u8], i: u64) -> u64
     number
 }
 
-// Lays so many numbers, with the marks of n pages, over the numbers, as far as these reach.
-pub(crate) fn lay(n: u64, bytes: &[u8], numbers: &mut [u64], count: u64)
-    requires { ⌜ count ≤ 256 ⌝ }
-    ensures { λ _. ⌜ now (numbers .exit) ≡ laid (now (numbers .entry)) 0 (listed (numberFor n (now (bytes .entry))) 0 count) ⌝ }
+// Lays the numbers with the marks of n pages over the numbers, as far as these reach.
+pub fn lay_numbers(n: u32, bytes: &[u8], numbers: &mut [u64])
+    ensures { λ _. ⌜ now (numbers .exit) ≡ laid (now (numbers .entry)) 0 (listed (numberFor n (now (bytes .entry))) 0 (numbersFor n)) ⌝ }
 {
     let mut i: u64 = 0;
-    let mut unwritten = count;
+    let mut unwritten = numbers_for(n);
     while 0 < unwritten {
         if numbers.len() <= i as usize {
             return;
         }
-        numbers[i as usize] = number_for(n, bytes, i);
+        numbers[i as usize] = number_for(n as u64, bytes, i);
         i += 1;
         unwritten -= 1;
     }

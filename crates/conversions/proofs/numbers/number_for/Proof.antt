@@ -1,6 +1,6 @@
 -- `number_for` meets its promise, since each pass puts the mark of one page, and sixteen marks put in 0 are the sixteen gathered.
 use mathlib.Core.Path.{_≡_}
-use Prim.Native.Nat.{_+_, _*_, _≤_}
+use Prim.Native.Nat.{_+_, _≤_}
 use Rattle.conversions.specs.Laws.{filled, number-starts, number-goes, number-ends}
 use Rattle.conversions.specs.Conversions.{markFor, numberFor}
 use borrow.Author.Needs.{needs}
@@ -8,7 +8,7 @@ use Rattle.conversions.proofs.numbers.number_for.Statement.{statement}
 use Rattle.conversions.proofs.numbers.number_for.Tie as tie
 
 abbrev Inv-loop : tie.InvT-loop
-Inv-loop n bytes i number₀ page₀ unwritten₀ number page unwritten = (page + unwritten ≤ 4096) × (numberFor n bytes i ≡ filled (markFor n bytes) number page unwritten)
+Inv-loop n bytes i number₀ page₀ unwritten₀ number page unwritten = (page + unwritten ≤ 0x100000000) × (numberFor n bytes i ≡ filled (markFor n bytes) number page unwritten)
 
 abbrev μ-loop : tie.MeasureT-loop
 μ-loop n bytes i number₀ page₀ unwritten₀ number page unwritten = unwritten

@@ -1,24 +1,28 @@
--- `has_stray` meets its promise, since each pass takes one mark off those that are still to be judged.
+-- `has_stray_mark` meets its promise, since each pass takes one mark off those that are still to be judged.
 use mathlib.Core.Path.{_≡_}
-use Prim.Native.Nat.{_+_, _*_, _≤_}
+use Prim.Native.Nat.{_+_, _≤_}
 use Rattle.rules.specs.Tests.{said}
 use Rattle.tools.specs.Search.{any, any-goes, any-stops, any-ends}
-use Rattle.conversions.specs.Conversions.{strayMark}
+use Rattle.conversions.specs.Conversions.{strayMark, strayMarks}
 use borrow.Author.Needs.{needs}
-use Rattle.conversions.proofs.numbers.has_stray.Statement.{statement}
-use Rattle.conversions.proofs.numbers.has_stray.Tie as tie
+use Rattle.conversions.proofs.numbers.has_stray_mark.Statement.{statement}
+use Rattle.conversions.proofs.numbers.has_stray_mark.Tie as tie
 
 abbrev Inv-loop : tie.InvT-loop
-Inv-loop n numbers count page₀ unseen₀ page unseen = (page + unseen ≤ 4096) × (any (strayMark n numbers) 0 (16 * count) ≡ any (strayMark n numbers) page unseen)
+Inv-loop n numbers page₀ unseen₀ page unseen = (page + unseen ≤ 0x100000000) × (strayMarks n numbers ≡ any (strayMark n numbers) page unseen)
 
 abbrev μ-loop : tie.MeasureT-loop
-μ-loop n numbers count page₀ unseen₀ page unseen = unseen
+μ-loop n numbers page₀ unseen₀ page unseen = unseen
+
+numbers-for-requires : tie.Need-numbers-for-requires Inv-loop μ-loop
+numbers-for-requires c κs = search needs
 
 mul-unseen : tie.Need-mul-unseen Inv-loop μ-loop
 mul-unseen c = search needs
 
 loop-holds : tie.Need-loop-holds Inv-loop μ-loop
-loop-holds c = search needs
+unfolding strayMarks
+loop-holds c = (search needs, rw (c .numbers-for .ensures .0))
 
 is-stray-requires : tie.Need-is-stray-requires Inv-loop μ-loop
 is-stray-requires c κs = search needs
@@ -41,12 +45,13 @@ loop-again c = (search needs, any-goes _ _ _ _ (c .before .before .before .loop 
 returns-2 : tie.Need-returns-2 Inv-loop μ-loop
 returns-2 c = any-ends _ _ _ _ (c .before .loop .inv .1) (search needs)
 
-pub has-stray-spec : {M : Type 1} → statement M
-has-stray-spec =
+pub has-stray-mark-spec : {M : Type 1} → statement M
+has-stray-mark-spec =
     tie.close
     (tie.spec
     Inv-loop
     μ-loop
+    numbers-for-requires
     mul-unseen
     loop-holds
     is-stray-requires

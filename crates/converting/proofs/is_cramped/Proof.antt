@@ -1,8 +1,8 @@
 -- `is_cramped` meets its promise, since each test is a part of what cramped means, and where none holds there is room.
-use Rattle.conversions.specs.Laws.{crampings}
 use borrow.Author.Needs.{needs}
-use Rattle.conversions.proofs.is_cramped.Statement.{statement}
-use Rattle.conversions.proofs.is_cramped.Tie as tie
+use Rattle.converting.proofs.is_cramped.Statement.{statement}
+use Rattle.converting.proofs.is_cramped.Tie as tie
+use Rattle.converting.specs.Outcomes.{crampings}
 
 returns : tie.Need-returns
 returns c = search (crampings, needs)
@@ -13,8 +13,8 @@ returns-2 c = search (crampings, needs)
 returns-3 : tie.Need-returns-3
 returns-3 c = search (crampings, needs)
 
-numbers-for-requires : tie.Need-numbers-for-requires
-numbers-for-requires c κs = search needs
+add-if4 : tie.Need-add-if4
+add-if4 c = search needs
 
 returns-4 : tie.Need-returns-4
 returns-4 c = search (crampings, needs)
@@ -23,5 +23,4 @@ returns-5 : tie.Need-returns-5
 returns-5 c = search (crampings, needs)
 
 pub is-cramped-spec : {M : Type 1} → statement M
-is-cramped-spec =
-    tie.close (tie.spec returns returns-2 returns-3 numbers-for-requires returns-4 returns-5)
+is-cramped-spec = tie.close (tie.spec returns returns-2 returns-3 add-if4 returns-4 returns-5)

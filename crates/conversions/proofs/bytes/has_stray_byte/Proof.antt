@@ -1,12 +1,12 @@
--- `has_stray` meets its promise, since each pass takes one byte off those that are still to be judged.
+-- `has_stray_byte` meets its promise, since each pass takes one byte off those that are still to be judged.
 use mathlib.Core.Path.{_≡_}
 use Prim.Native.Nat.{_+_}
 use Rattle.tools.specs.Search.{any, any-goes, any-stops, any-ends}
 use Rattle.conversions.specs.Laws.{byte-stray, byte-owner}
 use Rattle.conversions.specs.Conversions.{strayByte, strayBytes}
 use borrow.Author.Needs.{needs}
-use Rattle.conversions.proofs.bytes.has_stray.Statement.{statement}
-use Rattle.conversions.proofs.bytes.has_stray.Tie as tie
+use Rattle.conversions.proofs.bytes.has_stray_byte.Statement.{statement}
+use Rattle.conversions.proofs.bytes.has_stray_byte.Tie as tie
 
 abbrev Inv-loop : tie.InvT-loop
 Inv-loop n bytes page₀ unseen₀ page unseen = (page + unseen ≡ n) × (strayBytes n bytes ≡ any (strayByte bytes) page unseen)
@@ -39,8 +39,8 @@ loop-again c = (search needs, any-goes _ _ _ _ (c .before .before .before .loop 
 returns-2 : tie.Need-returns-2 Inv-loop μ-loop
 returns-2 c = any-ends _ _ _ _ (c .before .loop .inv .1) (search needs)
 
-pub has-stray-spec : {M : Type 1} → statement M
-has-stray-spec =
+pub has-stray-byte-spec : {M : Type 1} → statement M
+has-stray-byte-spec =
     tie.close
     (tie.spec
     Inv-loop

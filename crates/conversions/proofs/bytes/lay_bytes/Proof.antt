@@ -1,12 +1,12 @@
--- `lay` meets its promise, since each pass writes one byte, and those that are left, laid behind it, make the same of the space.
+-- `lay_bytes` meets its promise, since each pass writes one byte, and those that are left, laid behind it, make the same of the space.
 use mathlib.Core.Path.{_≡_}
 use Prim.Native.Nat.{_+_}
 use Rattle.tools.specs.Laid.{laid}
 use Rattle.conversions.specs.Laws.{Laying, laying-starts, laying-goes, laying-past, laying-ends}
 use Rattle.conversions.specs.Conversions.{byteFor, listed}
 use borrow.Author.Needs.{needs}
-use Rattle.conversions.proofs.bytes.lay.Statement.{statement}
-use Rattle.conversions.proofs.bytes.lay.Tie as tie
+use Rattle.conversions.proofs.bytes.lay_bytes.Statement.{statement}
+use Rattle.conversions.proofs.bytes.lay_bytes.Tie as tie
 
 abbrev Inv-loop : tie.InvT-loop
 Inv-loop n numbers bytes₀ page₀ unwritten₀ bytes page unwritten = (page + unwritten ≡ n) × Laying bytes₀ (laid bytes₀ 0 (listed (byteFor numbers) 0 n)) bytes (byteFor numbers) page unwritten
@@ -47,8 +47,8 @@ same-length-2 c = search needs
 returns-2 : tie.Need-returns-2 Inv-loop μ-loop
 returns-2 c = laying-ends _ _ _ _ _ _ (c .before .loop .inv .1) (search needs)
 
-pub lay-spec : {M : Type 1} → statement M
-lay-spec =
+pub lay-bytes-spec : {M : Type 1} → statement M
+lay-bytes-spec =
     tie.close
     (tie.spec
     Inv-loop

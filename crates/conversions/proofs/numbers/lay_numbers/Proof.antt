@@ -1,21 +1,23 @@
--- `lay` meets its promise, since each pass writes one number, and those that are left, laid behind it, make the same of the space.
-use mathlib.Core.Path.{_≡_}
-use Prim.Native.Nat.{_+_}
+-- `lay_numbers` meets its promise, since each pass writes one number, and those that are left, laid behind it, make the same of the space.
+use Prim.Native.Nat.{_+_, _≤_}
 use Rattle.tools.specs.Laid.{laid}
 use Rattle.conversions.specs.Laws.{Laying, laying-starts, laying-goes, laying-past, laying-ends}
-use Rattle.conversions.specs.Conversions.{numberFor, listed}
+use Rattle.conversions.specs.Conversions.{numbersFor, numberFor, listed}
 use borrow.Author.Needs.{needs}
-use Rattle.conversions.proofs.numbers.lay.Statement.{statement}
-use Rattle.conversions.proofs.numbers.lay.Tie as tie
+use Rattle.conversions.proofs.numbers.lay_numbers.Statement.{statement}
+use Rattle.conversions.proofs.numbers.lay_numbers.Tie as tie
 
 abbrev Inv-loop : tie.InvT-loop
-Inv-loop n bytes numbers₀ count i₀ unwritten₀ numbers i unwritten = (i + unwritten ≡ count) × Laying numbers₀ (laid numbers₀ 0 (listed (numberFor n bytes) 0 count)) numbers (numberFor n bytes) i unwritten
+Inv-loop n bytes numbers₀ i₀ unwritten₀ numbers i unwritten = (i + unwritten ≤ 0x10000000) × Laying numbers₀ (laid numbers₀ 0 (listed (numberFor n bytes) 0 (numbersFor n))) numbers (numberFor n bytes) i unwritten
 
 abbrev μ-loop : tie.MeasureT-loop
-μ-loop n bytes numbers₀ count i₀ unwritten₀ numbers i unwritten = unwritten
+μ-loop n bytes numbers₀ i₀ unwritten₀ numbers i unwritten = unwritten
+
+numbers-for-requires : tie.Need-numbers-for-requires Inv-loop μ-loop
+numbers-for-requires c κs = search needs
 
 loop-holds : tie.Need-loop-holds Inv-loop μ-loop
-loop-holds c = (search needs, laying-starts _ _ _)
+loop-holds c = (search needs, rw (c .numbers-for .ensures .0) (laying-starts _ _ _))
 
 same-length : tie.Need-same-length Inv-loop μ-loop
 same-length c = search needs
@@ -50,12 +52,13 @@ same-length-2 c = search needs
 returns-2 : tie.Need-returns-2 Inv-loop μ-loop
 returns-2 c = laying-ends _ _ _ _ _ _ (c .before .loop .inv .1) (search needs)
 
-pub lay-spec : {M : Type 1} → statement M
-lay-spec =
+pub lay-numbers-spec : {M : Type 1} → statement M
+lay-numbers-spec =
     tie.close
     (tie.spec
     Inv-loop
     μ-loop
+    numbers-for-requires
     loop-holds
     same-length
     returns
