@@ -38,23 +38,26 @@ module _ (n bytes numbers : ℕ) where
       sym (neither _ _ (neither _ _ (ne-eqb n 0 some) (le-ltb mostPages n most)) (neither _ _ (le-ltb bytes n b) (le-ltb numbers (numbersFor n) h)))
 
   -- what is so where it is not
-  pub record Room : Type 0 where
-    pub some : n ≡ 0 → ⊥
-    pub most : n ≤ mostPages
-    pub bytes-fit : n ≤ bytes
-    pub numbers-fit : numbersFor n ≤ numbers
+  module _ (e : cramped n bytes numbers ≡ false) where
+    right-count : (eqb n 0 || ltb mostPages n) ≡ false
+    unfolding cramped
+    right-count = not-first (eqb n 0 || ltb mostPages n) (ltb bytes n || ltb numbers (numbersFor n)) e
 
-  pub room : cramped n bytes numbers ≡ false → Room
-  unfolding cramped
-  room e =
-      let x = not-first (eqb n 0 || ltb mostPages n) (ltb bytes n || ltb numbers (numbersFor n)) e in
-      let y = not-second (eqb n 0 || ltb mostPages n) (ltb bytes n || ltb numbers (numbersFor n)) e in
-      record {
-        some = eqb-false n 0 (not-first (eqb n 0) (ltb mostPages n) x);
-        most = ltb-false mostPages n (not-second (eqb n 0) (ltb mostPages n) x);
-        bytes-fit = ltb-false bytes n (not-first (ltb bytes n) (ltb numbers (numbersFor n)) y);
-        numbers-fit = ltb-false numbers (numbersFor n) (not-second (ltb bytes n) (ltb numbers (numbersFor n)) y);
-      }
+    enough-space : (ltb bytes n || ltb numbers (numbersFor n)) ≡ false
+    unfolding cramped
+    enough-space = not-second (eqb n 0 || ltb mostPages n) (ltb bytes n || ltb numbers (numbersFor n)) e
+
+    pub some-pages : n ≡ 0 → ⊥
+    some-pages = eqb-false n 0 (not-first (eqb n 0) (ltb mostPages n) right-count)
+
+    pub most-pages : n ≤ mostPages
+    most-pages = ltb-false mostPages n (not-second (eqb n 0) (ltb mostPages n) right-count)
+
+    pub bytes-fit : n ≤ bytes
+    bytes-fit = ltb-false bytes n (not-first (ltb bytes n) (ltb numbers (numbersFor n)) enough-space)
+
+    pub numbers-fit : numbersFor n ≤ numbers
+    numbers-fit = ltb-false numbers (numbersFor n) (not-second (ltb bytes n) (ltb numbers (numbersFor n)) enough-space)
 
 pub ruleset crampings = (cramped-none, cramped-many, cramped-bytes, cramped-numbers, roomy)
 
@@ -71,7 +74,7 @@ module _ (n : ℕ) (bytes numbers : List ℕ) (a : Bool) (e : a ≡ cramped n (l
   module _ (r : a ≡ false) where
     -- then the page count fits what the crate below takes
     pub few-pages : n < 0x100000000
-    few-pages = let h = room n (length bytes) (length numbers) (sym e ∙ r) .most in omega arith
+    few-pages = let h = most-pages n (length bytes) (length numbers) (sym e ∙ r) in omega arith
 
     module _ (b : Bool) (f : b ≡ strayBytes n bytes) where
       pub pack-stray : b ≡ true → (0x89, numbers) ≡ packed n bytes numbers
@@ -83,7 +86,7 @@ module _ (n : ℕ) (bytes numbers : List ℕ) (a : Bool) (e : a ≡ cramped n (l
       pack-done p z g =
           goes _ _ _ _ _ _ (sym e ∙ r)
           (goes _ _ _ _ _ _ (sym f ∙ z) (ends _ _ _
-          (rw (g, laid-written (numberFor n bytes) (numbersFor n) numbers (room n (length bytes) (length numbers) (sym e ∙ r) .numbers-fit)))))
+          (rw (g, laid-written (numberFor n bytes) (numbersFor n) numbers (numbers-fit n (length bytes) (length numbers) (sym e ∙ r))))))
 
     module _ (b : Bool) (f : b ≡ strayMarks n numbers) where
       pub unpack-stray : b ≡ true → (0x89, bytes) ≡ unpacked n numbers bytes
@@ -94,6 +97,6 @@ module _ (n : ℕ) (bytes numbers : List ℕ) (a : Bool) (e : a ≡ cramped n (l
       unfolding unpacked
       unpack-done p z g =
           goes _ _ _ _ _ _ (sym e ∙ r)
-          (goes _ _ _ _ _ _ (sym f ∙ z) (ends _ _ _ (rw (g, laid-written (byteFor numbers) n bytes (room n (length bytes) (length numbers) (sym e ∙ r) .bytes-fit)))))
+          (goes _ _ _ _ _ _ (sym f ∙ z) (ends _ _ _ (rw (g, laid-written (byteFor numbers) n bytes (bytes-fit n (length bytes) (length numbers) (sym e ∙ r))))))
 
 pub ruleset outcomes = (pack-cramped, pack-stray, pack-done, unpack-cramped, unpack-stray, unpack-done)
