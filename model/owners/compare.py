@@ -14,9 +14,9 @@ sys.dont_write_bytecode = True
 import convert
 import lines
 
-# What the program reads at once, and the places that its two spaces have.
+# What the program reads at once, and how many places are tried.
 READ = 65536
-BYTES = 4352
+BYTES = lines.ROOM
 NUMBERS = 272
 
 EDGES = (1, 2, 15, 16, 17, 31, 32, 33, 4079, 4080, 4081, 4095, 4096)
@@ -135,7 +135,7 @@ def main():
             print("DIFFERENCE more answers than lines, or a word on standard error", done.stderr[:200])
         for line, answer in zip(batch, answers):
             expected = lines.answer_to(line)
-            told[line[0], expected.split(": ")[1][:2]] += 1
+            told[line.split(": ")[1][0], expected.split(": ")[1][:2]] += 1
             if answer != expected:
                 wrong += 1
                 print(f"DIFFERENCE {line[:300]!r}: expected {expected[:300]!r}, got {answer[:300]!r}", flush=True)

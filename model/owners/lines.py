@@ -1,11 +1,13 @@
 """lines.py < LINES: the answers of convert.py, a line each, in the notation of the program.
 
-A line is a conversion: p (bytes to numbers) or u (numbers to bytes), the page count, the bytes, the
-numbers and a name, with semicolons between them. All numbers are hexadecimal; a space is written as
-its values from the first place on, so many equal ones in a row as COUNT*VALUE.
+A line is a conversion: a name and a colon, p (bytes to numbers) or u (numbers to bytes), the page
+count, the bytes and the numbers, with semicolons between them. All numbers are hexadecimal; a space is written as
+its values from the first place on, so many equal ones in a row as COUNT*VALUE. A space of the program
+has up to 4352 places; a line that holds more or is written otherwise is no conversion.
 """
 
 import itertools
+import re
 import sys
 
 sys.dont_write_bytecode = True
@@ -15,6 +17,9 @@ import convert
 WORDS = {0: "00 converted",
          0x88: "88 not 1 to 4096 pages, or a space that is too small",
          0x89: "89 a byte or mark that is no owner, or padding that is not 0"}
+NAME = re.compile("[^:]*:?")
+REST = re.compile(" ([pu]) ([0-9a-f]+);([0-9a-f* ]*);([0-9a-f* ]*)")
+ROOM = 4352
 DONE_BY = {"p": convert.pack, "u": convert.unpack}
 
 
@@ -34,15 +39,22 @@ def text_of(values):
 
 
 def line_of(kind, pages, old, new, name):
-    return f"{kind} {pages:x}; {text_of(old)}; {text_of(new)}; {name}\n"
+    return f"{name}: {kind} {pages:x}; {text_of(old)}; {text_of(new)}\n"
 
 
 def answer_to(line):
     """What has to be printed for a line."""
-    head, old, new, name = line.rstrip("\n").split(";")
-    kind, pages = head.split()
-    status, old, new = DONE_BY[kind](int(pages, 16), space_of(old), space_of(new))
-    return f"{name.strip()}: {WORDS[status]}; {text_of(old)}; {text_of(new)}\n"
+    line = line.rstrip("\n")
+    name = NAME.match(line).group()
+    parts = REST.fullmatch(line, len(name))
+    if not parts:
+        return f"{name} no conversion\n"
+    kind, pages, old, new = parts.groups()
+    old, new = space_of(old), space_of(new)
+    if len(old) > ROOM or len(new) > ROOM:
+        return f"{name} no conversion\n"
+    status, old, new = DONE_BY[kind](int(pages, 16), old, new)
+    return f"{name} {WORDS[status]}; {text_of(old)}; {text_of(new)}\n"
 
 
 if __name__ == "__main__":

@@ -5,7 +5,6 @@ use Prim.Native.Nat.{ℕ}
 use lib.ListN.{length}
 use Rattle.rules.specs.Choice.{either}
 use Rattle.conversions.specs.Conversions.{numbersFor, cramped, strayBytes, strayMarks, numberFor, byteFor, written, packed, unpacked}
-use Rattle.converting.specs.Outcomes.{roomy}
 use Rattle.round_trips.specs.Statements.{Room, Owned, Marked, Packed, Unpacked}
 use Rattle.round_trips.specs.Judged.{judged, Outcome, outcome}
 use Rattle.round_trips.specs.Asked.{has-room, not-cramped, are-owned, not-stray, are-marked, not-strays}
