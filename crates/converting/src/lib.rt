@@ -35,7 +35,8 @@ fn is_cramped(n: u64, bytes: usize, numbers: usize) -> bool
 pub fn pack(n: u64, bytes: &[u8], numbers: &mut [u64]) -> u64
     ensures { λ r. ⌜ (r, now (numbers .exit)) ≡ packed n (now (bytes .entry)) (now (numbers .entry)) ⌝ }
 {
-    if is_cramped(n, bytes.len(), numbers.len()) {
+    let counted = numbers.len();
+    if is_cramped(n, bytes.len(), counted) {
         return CRAMPED;
     }
     if conversions::has_stray_byte(n as u32, bytes) {
@@ -49,7 +50,8 @@ pub fn pack(n: u64, bytes: &[u8], numbers: &mut [u64]) -> u64
 pub fn unpack(n: u64, numbers: &[u64], bytes: &mut [u8]) -> u64
     ensures { λ r. ⌜ (r, now (bytes .exit)) ≡ unpacked n (now (numbers .entry)) (now (bytes .entry)) ⌝ }
 {
-    if is_cramped(n, bytes.len(), numbers.len()) {
+    let held = bytes.len();
+    if is_cramped(n, held, numbers.len()) {
         return CRAMPED;
     }
     if conversions::has_stray_mark(n as u32, numbers) {

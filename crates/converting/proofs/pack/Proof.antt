@@ -2,6 +2,11 @@
 use borrow.Author.Needs.{needs}
 use Rattle.converting.proofs.pack.Statement.{statement}
 use Rattle.converting.proofs.pack.Tie as tie
+use Rattle.converting.proofs.pack.Reads as reads
+use Rattle.converting.proofs.pack.Lts as lts
+use Rattle.conversions.proofs.has_stray_byte.Reads as has-stray-byte-reads
+use Rattle.conversions.proofs.lay_numbers.Reads as lay-numbers-reads
+use Rattle.converting.proofs.is_cramped.Reads as is-cramped-reads
 use Rattle.converting.specs.Outcomes.{outcomes, few-pages}
 
 is-cramped-requires : tie.Need-is-cramped-requires

@@ -2,6 +2,11 @@
 use borrow.Author.Needs.{needs}
 use Rattle.converting.proofs.unpack.Statement.{statement}
 use Rattle.converting.proofs.unpack.Tie as tie
+use Rattle.converting.proofs.unpack.Reads as reads
+use Rattle.converting.proofs.unpack.Lts as lts
+use Rattle.conversions.proofs.lay_bytes.Reads as lay-bytes-reads
+use Rattle.conversions.proofs.has_stray_mark.Reads as has-stray-mark-reads
+use Rattle.converting.proofs.is_cramped.Reads as is-cramped-reads
 use Rattle.converting.specs.Outcomes.{outcomes, few-pages}
 
 is-cramped-requires : tie.Need-is-cramped-requires
