@@ -78,6 +78,9 @@ fn say_row(value: u64, count: u64) {
 
 // Writes so many values, a row of equal ones at once.
 pub(crate) fn say_space(space: &Numbers, count: usize) {
+    if count == 0 {
+        say(b"0*0");
+    }
     let mut at: usize = 0;
     while at < count {
         if ROOM <= at {
@@ -86,7 +89,7 @@ pub(crate) fn say_space(space: &Numbers, count: usize) {
         let next = row_end(space, at, count);
         say_row(space[at], (next - at) as u64);
         if next < count {
-            say(b" ");
+            say(b",");
         }
         at = next;
     }

@@ -1,11 +1,15 @@
 -- What is guaranteed of every conversion: it is done exactly where it may be, either trip gives back what went in, and a refused one leaves no trace.
 use mathlib.Core.Path.{_≡_}
-use mathlib.Core.List.{List, _++_}
-use Prim.Native.Nat.{ℕ, _*_, _≤_, _<_}
+use mathlib.Core.List.{List, [], _∷_, _++_}
+use Prim.Native.Nat.{ℕ, _*_, _/_, _%_, _^_, _≤_, _<_}
 use lib.ListN.{length, getD, take, drop}
 use Rattle.rules.specs.Sizes.{lastWorld}
 use Rattle.marks.specs.Owners.{markOf}
 use Rattle.conversions.specs.Conversions.{byteOf, markIn, numbersFor, packed, unpacked}
+
+-- the mark of a page in a table, in plain numbers
+abbrev pub plainMark : List ℕ → ℕ → ℕ
+plainMark table page = getD table (page / 16) 0 / 16 ^ (page % 16) % 16
 
 -- ---- what a conversion asks for
 -- there are 1 to 4096 pages, and each space has room for them
@@ -58,3 +62,18 @@ pub record Unpacked (n : ℕ) (numbers bytes bytes′ : List ℕ) : Type 0 where
   pub back :
       ((i : ℕ) → getD numbers i 0 < 0x10000000000000000) → (space : List ℕ) → numbersFor n ≤ length space →
       packed n bytes′ space ≡ (0, take (numbersFor n) numbers ++ drop (numbersFor n) space)
+
+-- ---- a table in which each of n pages has its owner's mark, and every place behind them 0: `owner` says whose each page is
+pub record Granules (n : ℕ) (table : List ℕ) (owner : ℕ → ℕ) : Type 0 where
+  pub worlds : (page : ℕ) → page < n → owner page ≤ 3
+  pub marks : (page : ℕ) → page < n → plainMark table page ≡ getD (0xA ∷ 0x8 ∷ 0x9 ∷ 0xB ∷ []) (owner page) 0
+  pub padding : (page : ℕ) → n ≤ page → page < 4096 → plainMark table page ≡ 0
+
+-- it was unpacked over bytes, which are bytes′ then, and this was answered
+pub record Shown (n : ℕ) (owner : ℕ → ℕ) (bytes : List ℕ) (answer : ℕ) (bytes′ : List ℕ) : Type 0 where
+  -- It is one that unpacks.
+  pub answered : answer ≡ 0
+  -- Each byte is the page's owner.
+  pub each : (page : ℕ) → page < n → byteOf bytes′ page ≡ owner page
+  -- Bytes past those needed stay.
+  pub past : drop n bytes′ ≡ drop n bytes

@@ -1,11 +1,15 @@
 -- The theorems: what is stated holds of every conversion that keeps its promise, whatever the page count and the spaces.
-use mathlib.Core.Path.{_≡_}
+use mathlib.Core.Path.{_≡_, sym, ap, _∙_}
 use mathlib.Core.List.{List}
-use Prim.Native.Nat.{ℕ}
-use lib.ListN.{length}
+use Prim.Native.Nat.{ℕ, _/_, _%_, _≤_, _<_}
+use native.Mathlib.Omega.{arith}
+use lib.ListN.{length, getD}
+use Rattle.rules.specs.Sizes.{lastWorld}
 use Rattle.rules.specs.Choice.{either}
-use Rattle.conversions.specs.Conversions.{numbersFor, cramped, strayBytes, strayMarks, numberFor, byteFor, written, packed, unpacked}
-use Rattle.round_trips.specs.Statements.{Room, Owned, Marked, Packed, Unpacked}
+use Rattle.marks.specs.Digits.{digit-plain}
+use Rattle.marks.specs.Owners.{markOf, ownerOf, owner-of-mark, mark-low, mark-high, marks-listed}
+use Rattle.conversions.specs.Conversions.{byteOf, markIn, numbersFor, cramped, strayBytes, strayMarks, numberFor, byteFor, written, packed, unpacked}
+use Rattle.round_trips.specs.Statements.{plainMark, Room, Owned, Marked, Packed, Unpacked, Granules, Shown}
 use Rattle.round_trips.specs.Judged.{judged, Outcome, outcome}
 use Rattle.round_trips.specs.Asked.{has-room, not-cramped, are-owned, not-stray, are-marked, not-strays}
 use Rattle.round_trips.specs.Trips.{trip-of-bytes, trip-of-numbers}
@@ -69,3 +73,33 @@ module _ (n : ℕ) (numbers bytes : List ℕ) (answer : ℕ) (bytes′ : List �
   -- Where it does not answer 0, nothing is written.
   pub unpack-refused : (answer ≡ 0 → ⊥) → bytes′ ≡ bytes
   unpack-refused = how-unpacked .space-stays
+
+-- ---- a table with the marks of n pages and 0 behind them is one that unpacks
+module _ (n : ℕ) (table : List ℕ) (owner : ℕ → ℕ) (g : Granules n table owner) (bytes : List ℕ) (r : Room n bytes table) where
+  plain-is : (page : ℕ) → markIn table page ≡ plainMark table page
+  unfolding markIn
+  plain-is page = sym (digit-plain (getD table (page / 16) 0) (page % 16))
+
+  own-mark : (page : ℕ) → page < n → markIn table page ≡ markOf (owner page)
+  own-mark page h = plain-is page ∙ g .marks page h ∙ sym (marks-listed (owner page) (g .worlds page h))
+
+  own-marked : Marked n table
+  own-marked = record {
+    low = λ page h. rw (own-mark page h) (mark-low (owner page) (g .worlds page h));
+    high = λ page h. rw (own-mark page h) (mark-high (owner page) (g .worlds page h));
+    padding = λ page h l. plain-is page ∙ g .padding page h (omega (arith, r .most));
+  }
+
+  shown-owner : (bytes′ : List ℕ) → Unpacked n table bytes bytes′ → (page : ℕ) → page < n → byteOf bytes′ page ≤ lastWorld
+  unfolding Owned
+  shown-owner bytes′ u page h = u .owners page h
+
+  pub any-shown : (answer : ℕ) (bytes′ : List ℕ) → (answer, bytes′) ≡ unpacked n table bytes → Shown n owner bytes answer bytes′
+  any-shown answer bytes′ promise =
+      let a = unpack-accepts n table bytes answer bytes′ promise r own-marked in
+      let u = any-unpacked n table bytes answer bytes′ promise a in
+      record {
+        answered = a;
+        each = λ page h. sym (owner-of-mark _ (shown-owner bytes′ u page h)) ∙ ap ownerOf (u .each page h ∙ own-mark page h) ∙ owner-of-mark (owner page) (g .worlds page h);
+        past = u .past;
+      }

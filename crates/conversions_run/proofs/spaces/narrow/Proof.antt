@@ -4,6 +4,11 @@
 -- Each pass goes on by one place, and the array keeps its length.
 -- Each pass goes on by one place, and the array keeps its length.
 -- Each pass goes on by one place, and the array keeps its length.
+-- Each pass goes on by one place, and the array keeps its length.
+-- Each pass goes on by one place, and the array keeps its length.
+-- Each pass goes on by one place, and the array keeps its length.
+-- Each pass goes on by one place, and the array keeps its length.
+-- Each pass goes on by one place, and the array keeps its length.
 use Prim.Native.Nat.{_-_, _≤_}
 use borrow.Author.Needs.{needs}
 use Rattle.conversions_run.proofs.spaces.narrow.Statement.{statement}

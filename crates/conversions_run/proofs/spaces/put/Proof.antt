@@ -4,7 +4,11 @@
 -- What is left to put falls with each pass.
 -- What is left to put falls with each pass.
 -- What is left to put falls with each pass.
-use Prim.Native.Nat.{_+_}
+-- What is left to put falls with each pass.
+-- What is left to put falls with each pass.
+-- What is left to put falls with each pass.
+-- What is left to put falls with each pass.
+-- What is left to put falls with each pass.
 use borrow.Author.Needs.{needs}
 use Rattle.conversions_run.proofs.spaces.put.Statement.{statement}
 use Rattle.conversions_run.proofs.spaces.put.Tie as tie

@@ -4,6 +4,11 @@
 -- Each pass goes on by one place, which stays in the array.
 -- Each pass goes on by one place, which stays in the array.
 -- Each pass goes on by one place, which stays in the array.
+-- Each pass goes on by one place, which stays in the array.
+-- Each pass goes on by one place, which stays in the array.
+-- Each pass goes on by one place, which stays in the array.
+-- Each pass goes on by one place, which stays in the array.
+-- Each pass goes on by one place, which stays in the array.
 use Prim.Native.Nat.{_-_, _<_}
 use borrow.Author.Needs.{needs}
 use Rattle.conversions_run.proofs.spaces.row_end.Statement.{statement}

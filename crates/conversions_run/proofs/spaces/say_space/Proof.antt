@@ -1,18 +1,20 @@
 -- Each pass goes on to the end of a row, which lies behind where it began.
--- Each pass goes on to the end of a row, which lies behind where it began.
--- Each pass goes on to the end of a row, which lies behind where it began.
--- Each pass goes on to the end of a row, which lies behind where it began.
--- Each pass goes on to the end of a row, which lies behind where it began.
 use Prim.Native.Nat.{_-_}
 use borrow.Author.Needs.{needs}
 use Rattle.conversions_run.proofs.spaces.say_space.Statement.{statement}
 use Rattle.conversions_run.proofs.spaces.say_space.Tie as tie
 
 abbrev Inv-loop : tie.InvT-loop
-Inv-loop space count at₀ t5 at = Unit {0}
+Inv-loop space count at₀ t6 at = Unit {0}
 
 abbrev μ-loop : tie.MeasureT-loop
-μ-loop space count at₀ t5 at = count - at
+μ-loop space count at₀ t6 at = count - at
+
+slice-aggregate-say : tie.Need-slice-aggregate-say Inv-loop μ-loop
+slice-aggregate-say c = search needs
+
+say-requires : tie.Need-say-requires Inv-loop μ-loop
+say-requires c κs = search needs
 
 loop-holds : tie.Need-loop-holds Inv-loop μ-loop
 loop-holds c = search needs
@@ -35,11 +37,11 @@ sub-say-row c = search needs
 say-row-requires : tie.Need-say-row-requires Inv-loop μ-loop
 say-row-requires c κs = search needs
 
-slice-aggregate-say : tie.Need-slice-aggregate-say Inv-loop μ-loop
-slice-aggregate-say c = search needs
+slice-aggregate-say-2 : tie.Need-slice-aggregate-say-2 Inv-loop μ-loop
+slice-aggregate-say-2 c = search needs
 
-say-requires : tie.Need-say-requires Inv-loop μ-loop
-say-requires c κs = search needs
+say-requires-2 : tie.Need-say-requires-2 Inv-loop μ-loop
+say-requires-2 c κs = search needs
 
 loop-less : tie.Need-loop-less Inv-loop μ-loop
 loop-less c = search needs
@@ -62,6 +64,8 @@ say-space-spec =
     (tie.spec
     Inv-loop
     μ-loop
+    slice-aggregate-say
+    say-requires
     loop-holds
     returns
     row-end-requires
@@ -69,8 +73,8 @@ say-space-spec =
     element-copy-out-say-row
     sub-say-row
     say-row-requires
-    slice-aggregate-say
-    say-requires
+    slice-aggregate-say-2
+    say-requires-2
     loop-less
     loop-again
     loop-less-2
