@@ -1,11 +1,11 @@
 -- What is guaranteed of every conversion: it is done exactly where it may be, either trip gives back what went in, and a refused one leaves no trace.
 use mathlib.Core.Path.{_≡_}
 use mathlib.Core.List.{List, [], _∷_, _++_}
-use Prim.Native.Nat.{ℕ, _*_, _/_, _%_, _^_, _≤_, _<_}
+use Prim.Native.Nat.{ℕ, _+_, _*_, _/_, _%_, _^_, _≤_, _<_}
 use lib.ListN.{length, getD, take, drop}
 use Rattle.rules.specs.Sizes.{lastWorld}
 use Rattle.marks.specs.Owners.{markOf}
-use Rattle.conversions.specs.Conversions.{byteOf, markIn, numbersFor, packed, unpacked}
+use Rattle.conversions.specs.Conversions.{byteOf, markIn, packed, unpacked}
 
 -- the mark of a page in a table, in plain numbers
 abbrev pub plainMark : List ℕ → ℕ → ℕ
@@ -17,7 +17,7 @@ pub record Room (n : ℕ) (bytes numbers : List ℕ) : Type 0 where
   pub some : 1 ≤ n
   pub most : n ≤ 4096
   pub bytes-fit : n ≤ length bytes
-  pub numbers-fit : numbersFor n ≤ length numbers
+  pub numbers-fit : (n + 15) / 16 ≤ length numbers
 
 -- each of the first n bytes is an owner
 unfoldable pub Owned : ℕ → List ℕ → Type 0
@@ -27,7 +27,7 @@ Owned n bytes = (page : ℕ) → page < n → byteOf bytes page ≤ lastWorld
 pub record Marked (n : ℕ) (numbers : List ℕ) : Type 0 where
   pub low : (page : ℕ) → page < n → 0x8 ≤ markIn numbers page
   pub high : (page : ℕ) → page < n → markIn numbers page ≤ 0xB
-  pub padding : (page : ℕ) → n ≤ page → page < 16 * numbersFor n → markIn numbers page ≡ 0
+  pub padding : (page : ℕ) → n ≤ page → page < 16 * ((n + 15) / 16) → markIn numbers page ≡ 0
 
 -- ---- what is so after a conversion that answers 0
 -- bytes were packed over numbers, which are numbers′ then
@@ -38,11 +38,11 @@ pub record Packed (n : ℕ) (bytes numbers numbers′ : List ℕ) : Type 0 where
   -- The space is as long as before.
   pub as-long : length numbers′ ≡ length numbers
   -- Its numbers past those needed stay.
-  pub past : drop (numbersFor n) numbers′ ≡ drop (numbersFor n) numbers
+  pub past : drop ((n + 15) / 16) numbers′ ≡ drop ((n + 15) / 16) numbers
   -- Each page has its owner's mark.
   pub each : (page : ℕ) → page < n → markIn numbers′ page ≡ markOf (byteOf bytes page)
   -- The marks past the last page are 0.
-  pub padding : (page : ℕ) → n ≤ page → page < 16 * numbersFor n → markIn numbers′ page ≡ 0
+  pub padding : (page : ℕ) → n ≤ page → page < 16 * ((n + 15) / 16) → markIn numbers′ page ≡ 0
   -- Unpacked into any space that has room, they are the n bytes that went in, and what lies behind stays.
   pub back : (space : List ℕ) → n ≤ length space → unpacked n numbers′ space ≡ (0, take n bytes ++ drop n space)
 
@@ -60,8 +60,8 @@ pub record Unpacked (n : ℕ) (numbers bytes bytes′ : List ℕ) : Type 0 where
   pub each : (page : ℕ) → page < n → markOf (byteOf bytes′ page) ≡ markIn numbers page
   -- Packed into any space that has room, they are the numbers that went in, and what lies behind stays.
   pub back :
-      ((i : ℕ) → getD numbers i 0 < 0x10000000000000000) → (space : List ℕ) → numbersFor n ≤ length space →
-      packed n bytes′ space ≡ (0, take (numbersFor n) numbers ++ drop (numbersFor n) space)
+      ((i : ℕ) → getD numbers i 0 < 0x10000000000000000) → (space : List ℕ) → (n + 15) / 16 ≤ length space →
+      packed n bytes′ space ≡ (0, take ((n + 15) / 16) numbers ++ drop ((n + 15) / 16) space)
 
 -- ---- a table in which each of n pages has its owner's mark, and every place behind them 0: `owner` says whose each page is
 pub record Granules (n : ℕ) (table : List ℕ) (owner : ℕ → ℕ) : Type 0 where
