@@ -1,7 +1,7 @@
 // One frame, and the text of its answer.
 ghost use mathlib.Core.Path.{_≡_};
 ghost use Rattle.tools.specs.Laid.{put};
-ghost use Rattle.frames.specs.Frames.{machine};
+ghost use Rattle.frames.specs.Frames.{Machine, onMachine};
 ghost use Rattle.answering.specs.Answer.{textOf, answered};
 use cores::Powers;
 use cores::Turns;
@@ -41,7 +41,7 @@ pub fn answer(
     turns: &mut Turns,
     lists: &mut Lists,
 ) -> usize
-    ensures { λ n. ⌜ (machine (now (setup .exit)) (now (named .exit)) (now (book .exit)) (now (owners .exit)) (now (saved .exit)) (now (powers .exit)) (now (turns .exit)) (now (lists .exit)), (n, now (out .exit))) ≡ answered (machine (now (setup .entry)) (now (named .entry)) (now (book .entry)) (now (owners .entry)) (now (saved .entry)) (now (powers .entry)) (now (turns .entry)) (now (lists .entry))) frame (now (x .entry)) (now (out .entry)) at ⌝ }
+    ensures { λ n. ⌜ onMachine setup named book owners saved powers turns lists (λ (m m′ : Machine). (m′, (n, now (out .exit))) ≡ answered m frame (now (x .entry)) (now (out .entry)) at) ⌝ }
 {
     let reply = frames::step(
         frame,

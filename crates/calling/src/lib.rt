@@ -2,7 +2,7 @@
 ghost use mathlib.Core.Path.{_≡_};
 ghost use Rattle.cores.specs.Power.{isOn};
 ghost use Rattle.cores.specs.Cores.{power};
-ghost use Rattle.calls.specs.Step.{state};
+ghost use Rattle.calls.specs.Step.{State, onState};
 ghost use Rattle.setup.specs.Frames.{coreVerdict};
 ghost use Rattle.calling.specs.Calling.{siteOf, trying, calling};
 use calls::Made;
@@ -55,7 +55,7 @@ pub fn try_call(
     turns: &mut Turns,
     lists: &mut Lists,
 ) -> Tried
-    ensures { λ r. ⌜ ((now (setup .exit), state (siteOf (now (setup .entry))) (now (book .entry)) (now (owners .exit)) (now (saved .exit)) (now (powers .exit)) (now (turns .exit)) (now (lists .exit))), r) ≡ trying (now (setup .entry)) (state (siteOf (now (setup .entry))) (now (book .entry)) (now (owners .entry)) (now (saved .entry)) (now (powers .entry)) (now (turns .entry)) (now (lists .entry))) core (now (x .entry)) ⌝ }
+    ensures { λ r. ⌜ onState (siteOf (now (setup .entry))) book owners saved powers turns lists (λ (w w′ : State). ((now (setup .exit), w′), r) ≡ trying (now (setup .entry)) w core (now (x .entry))) ⌝ }
 {
     let Verdict::Refused(why) = judge_call(setup, core, powers) else {
         let site = site_of(setup);
@@ -78,7 +78,7 @@ pub fn make_call(
     turns: &mut Turns,
     lists: &mut Lists,
 ) -> Reply
-    ensures { λ r. ⌜ ((now (setup .exit), state (siteOf (now (setup .entry))) (now (book .entry)) (now (owners .exit)) (now (saved .exit)) (now (powers .exit)) (now (turns .exit)) (now (lists .exit))), r) ≡ calling (now (setup .entry)) (state (siteOf (now (setup .entry))) (now (book .entry)) (now (owners .entry)) (now (saved .entry)) (now (powers .entry)) (now (turns .entry)) (now (lists .entry))) core (now (x .entry)) ⌝ }
+    ensures { λ r. ⌜ onState (siteOf (now (setup .entry))) book owners saved powers turns lists (λ (w w′ : State). ((now (setup .exit), w′), r) ≡ calling (now (setup .entry)) w core (now (x .entry))) ⌝ }
 {
     let tried = try_call(setup, core, x, book, owners, saved, powers, turns, lists);
     match tried {

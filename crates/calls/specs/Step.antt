@@ -2,7 +2,9 @@
 use mathlib.Core.Bool.{Bool, true, false}
 use mathlib.Core.List.{List, [], _∷_}
 use Prim.Native.Nat.{ℕ}
+use denote.Ref.{now}
 use Rattle.rules.specs.Choice.{pick}
+use Rattle.rules.specs.Lent.{Lent}
 use Rattle.registers.specs.Registers.{saving}
 use Rattle.cores.specs.Power.{arrived, isPending, entered}
 use Rattle.cores.specs.Cores.{power, withPower, turn, withTurn}
@@ -31,6 +33,12 @@ pub record State : Type 0 where
 
 abbrev pub state : Site → List ℕ → List ℕ → List ℕ → List ℕ → List ℕ → List ℕ → State
 state w l o r p t m = record { site = w; ledger = l; owners = o; saved = r; powers = p; turns = t; lists = m }
+
+-- what is said of a site, a ledger that is read and lent tables, before and after
+abbrev pub onState : Site → Lent → Lent → Lent → Lent → Lent → Lent → (State → State → Type 0) → Type 0
+onState w l o r p t m P =
+    P (state w (now (l .entry)) (now (o .entry)) (now (r .entry)) (now (p .entry)) (now (t .entry)) (now (m .entry)))
+    (state w (now (l .entry)) (now (o .exit)) (now (r .exit)) (now (p .exit)) (now (t .exit)) (now (m .exit)))
 
 -- ---- what a judgement sees
 abbrev pub callerOn : Site → List ℕ → ℕ → Caller

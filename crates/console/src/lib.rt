@@ -1,7 +1,7 @@
 // The loop of reads and writes: standard input to standard output, each line answered as soon as it has been read.
 ghost use mathlib.Core.Path.{_≡_};
 ghost use mathlib.Core.Bool.{true};
-ghost use Rattle.frames.specs.Frames.{machine};
+ghost use Rattle.frames.specs.Frames.{onMachine};
 ghost use Rattle.inputs.specs.Loop.{Ran, Left};
 use cores::Powers;
 use cores::Turns;
@@ -28,7 +28,7 @@ fn serve(
     turns: &mut Turns,
     lists: &mut Lists,
 ) -> bool
-    ensures { λ r. ⌜ (r ≡ true → Ran (machine (now (setup .entry)) (now (named .entry)) (now (book .entry)) (now (owners .entry)) (now (saved .entry)) (now (powers .entry)) (now (turns .entry)) (now (lists .entry))) (machine (now (setup .exit)) (now (named .exit)) (now (book .exit)) (now (owners .exit)) (now (saved .exit)) (now (powers .exit)) (now (turns .exit)) (now (lists .exit)))) ⌝ }
+    ensures { λ r. ⌜ (r ≡ true → onMachine setup named book owners saved powers turns lists Ran) ⌝ }
 {
     let mut kept: usize = 0;
     let mut left = u64::MAX;

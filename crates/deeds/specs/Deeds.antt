@@ -3,7 +3,9 @@ use mathlib.Core.List.{List}
 use Prim.Native.Nat.{ℕ}
 use lib.Dec.{eqb}
 use lib.ListN.{take, drop}
+use denote.Ref.{now}
 use Rattle.rules.specs.Choice.{pick}
+use Rattle.rules.specs.Lent.{Lent}
 use Rattle.registers.specs.Registers.{saving}
 use Rattle.cores.specs.Power.{started, goneOff, handed, finished}
 use Rattle.cores.specs.Cores.{power, withPower, turn, withTurn}
@@ -23,6 +25,12 @@ pub record Tables : Type 0 where
 
 abbrev pub tables : List ℕ → List ℕ → List ℕ → List ℕ → List ℕ → Tables
 tables o r p t m = record { owners = o; saved = r; powers = p; turns = t; lists = m }
+
+-- what is said of lent tables, before and after
+abbrev pub onTables : Lent → Lent → Lent → Lent → Lent → (Tables → Tables → Type 0) → Type 0
+onTables o r p t m P =
+    P (tables (now (o .entry)) (now (r .entry)) (now (p .entry)) (now (t .entry)) (now (m .entry)))
+    (tables (now (o .exit)) (now (r .exit)) (now (p .exit)) (now (t .exit)) (now (m .exit)))
 
 -- ---- the tables with one of them anew
 abbrev pub withOwners : Tables → List ℕ → Tables

@@ -2,7 +2,7 @@
 ghost use mathlib.Core.Path.{_≡_};
 ghost use Rattle.registers.specs.Registers.{saving};
 ghost use Rattle.rules.specs.Sizes.{normal};
-ghost use Rattle.deeds.specs.Deeds.{tables, startedIn, goneOffIn, handedIn, finishedIn, returned, finishNumbers, carriedOut};
+ghost use Rattle.deeds.specs.Deeds.{Tables, onTables, startedIn, goneOffIn, handedIn, finishedIn, returned, finishNumbers, carriedOut};
 use cores::Powers;
 use cores::Turns;
 use judgements::Deed;
@@ -85,7 +85,7 @@ pub fn do_deed(
     turns: &mut Turns,
     lists: &mut Lists,
 )
-    ensures { λ _. ⌜ tables (now (owners .exit)) (now (saved .exit)) (now (powers .exit)) (now (turns .exit)) (now (lists .exit)) ≡ carriedOut d core caller (now (x .entry)) (tables (now (owners .entry)) (now (saved .entry)) (now (powers .entry)) (now (turns .entry)) (now (lists .entry))) ⌝ }
+    ensures { λ _. ⌜ onTables owners saved powers turns lists (λ (t t′ : Tables). t′ ≡ carriedOut d core caller (now (x .entry)) t) ⌝ }
 {
     match d {
         Deed::Nothing => {}

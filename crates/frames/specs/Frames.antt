@@ -1,6 +1,8 @@
 -- What a frame does to the whole machine, and how it is answered.
 use mathlib.Core.List.{List}
 use Prim.Native.Nat.{ℕ}
+use denote.Ref.{now}
+use Rattle.rules.specs.Lent.{Lent}
 use Rattle.ledger.specs.Ledger.{empty}
 use Rattle.registers.specs.Registers.{zeros}
 use Rattle.cores.specs.Cores.{firstPowers, firstTurns}
@@ -31,6 +33,12 @@ pub record Machine : Type 0 where
 
 abbrev pub machine : List ℕ → List ℕ → List ℕ → List ℕ → List ℕ → List ℕ → List ℕ → List ℕ → Machine
 machine s n l o r p t m = record { setup = s; named = n; ledger = l; owners = o; saved = r; powers = p; turns = t; lists = m }
+
+-- what is said of the machine in lent tables, before and after
+abbrev pub onMachine : Lent → Lent → Lent → Lent → Lent → Lent → Lent → Lent → (Machine → Machine → Type 0) → Type 0
+onMachine s n l o r p t m P =
+    P (machine (now (s .entry)) (now (n .entry)) (now (l .entry)) (now (o .entry)) (now (r .entry)) (now (p .entry)) (now (t .entry)) (now (m .entry)))
+    (machine (now (s .exit)) (now (n .exit)) (now (l .exit)) (now (o .exit)) (now (r .exit)) (now (p .exit)) (now (t .exit)) (now (m .exit)))
 
 -- the part of it that a call works on
 abbrev pub stateOf : Machine → State

@@ -1,6 +1,6 @@
 // Any frame: one of set-up, a call, an arrival, or nothing where the line is no frame.
 ghost use mathlib.Core.Path.{_≡_};
-ghost use Rattle.frames.specs.Frames.{machine, framed};
+ghost use Rattle.frames.specs.Frames.{Machine, onMachine, framed};
 use cores::Powers;
 use cores::Turns;
 use ledger::Ledger;
@@ -25,7 +25,7 @@ pub fn step(
     turns: &mut Turns,
     lists: &mut Lists,
 ) -> Reply
-    ensures { λ r. ⌜ (machine (now (setup .exit)) (now (named .exit)) (now (book .exit)) (now (owners .exit)) (now (saved .exit)) (now (powers .exit)) (now (turns .exit)) (now (lists .exit)), r) ≡ framed (machine (now (setup .entry)) (now (named .entry)) (now (book .entry)) (now (owners .entry)) (now (saved .entry)) (now (powers .entry)) (now (turns .entry)) (now (lists .entry))) frame (now (x .entry)) ⌝ }
+    ensures { λ r. ⌜ onMachine setup named book owners saved powers turns lists (λ (m m′ : Machine). (m′, r) ≡ framed m frame (now (x .entry))) ⌝ }
 {
     match frame {
         Frame::Site { base, pages, cores } => {

@@ -21,11 +21,11 @@ numbers = 256
 pub unmarked : List ℕ
 unmarked = replicate numbers 0
 
--- the mark of a page; 0 past the last
+-- the mark of a page; 0 past the table's end
 pub mark : List ℕ → ℕ → ℕ
 mark t page = digit (read numbers t (page / 16)) (page % 16)
 
--- the table with another mark for a page, of which the low four bits count; nothing changes past the last page
+-- the table with another mark for a page, of which the low four bits count; nothing changes past the table's end
 pub marked : List ℕ → ℕ → ℕ → List ℕ
 marked t page m = write numbers t (page / 16) (put (read numbers t (page / 16)) (page % 16) (m % 16))
 
@@ -33,6 +33,10 @@ marked t page m = write numbers t (page / 16) (put (read numbers t (page / 16)) 
 pub record WholeMarks (t : List ℕ) : Type 0 where
   pub long : Whole numbers t
   pub fits : (i : ℕ) → read numbers t i < 16 ^ 16
+
+pub whole-long : (t : List ℕ) → WholeMarks t → length t ≡ numbers
+unfolding Whole
+whole-long t w = w .long
 
 -- ---- how the code meets these
 pub unmarked-is : replicate numbers 0 ≡ unmarked

@@ -1,4 +1,4 @@
--- How a ledger keeps the accepted entries: one behind the other, oldest first, and a free place behind the last of them. Nothing here is opened elsewhere: `handler` says what a ledger holds, `used` how many entries, and the laws what one entry more does to both.
+-- How a ledger keeps the accepted entries: one behind the other, oldest first, and a free place behind the last of them. The layout is opened nowhere else: `handler` says what a ledger holds, `used` how many entries, and the laws what one entry more does to both.
 use mathlib.Core.Path.{_≡_, refl, sym, ap, _∙_}
 use mathlib.Core.Bool.{Bool, true, false, _&&_}
 use mathlib.Core.List.{List, [], _∷_, _++_}
@@ -412,7 +412,7 @@ module _ (t : List ℕ) (first last kind number : ℕ) where
         rw (gained, serving-behind, e, entry-means first last kind number f l j n kind owner, naming first last kind kind owner refl h g, pick-yes true) (ap Handler (entry-number first last kind number f l j n))
 
 -- ---- what the lookup does not look at
--- `u` has the entries of `t` and the free place that ends them, which are its first 2 * (used t + 1) bytes
+-- `u` has the entries of `t` and the free place that ends them: the first used t + 1 places, or all of them where none is free
 module _ (t u : List ℕ) (alike : take (used t + 1) u ≡ take (used t + 1) t) where
   alike-at : (i : ℕ) → i ≤ used t → i < 128 → read 128 u i ≡ read 128 t i
   alike-at i h l =

@@ -1,4 +1,4 @@
--- Why there is a free place for every entry that is accepted: no ledger has more entries than pairs with a handler, and there are as many places as pairs.
+-- Why there is a free place for every entry that is accepted: a ledger that entries are made in has no more of them than pairs with a handler, and there are as many places as pairs.
 use mathlib.Core.Path.{_≡_, refl, sym}
 use mathlib.Core.Bool.{Bool, true, false}
 use mathlib.Core.List.{List}

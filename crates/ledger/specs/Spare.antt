@@ -1,4 +1,4 @@
--- What a board gains: a ledger has a place in use for each accepted entry, and a lookup reads those and the free place that ends them.
+-- What a board gains: a ledger has a place in use for each accepted entry, and a lookup reads those and the free place that ends them, if there is one.
 use mathlib.Core.Path.{_≡_}
 use mathlib.Core.List.{List, [], _∷_}
 use Prim.Native.Nat.{ℕ, _+_}

@@ -10,7 +10,7 @@ use Rattle.rules.specs.Sizes.{root, secure, normal, realm, lastWorld, worlds}
 use Rattle.rules.specs.Choice.{pick, pick-no}
 use Rattle.tools.specs.Search.{all, all-at}
 
--- the mark of no page: that of the places past the last
+-- the mark of the places that are no page of the window
 abbrev pub nobodys : ℕ
 nobodys = 0
 
@@ -18,7 +18,7 @@ nobodys = 0
 unfoldable pub markOf : ℕ → ℕ
 markOf w = pick (eqb w secure) 8 (pick (eqb w normal) 9 (pick (eqb w root) 10 (pick (eqb w realm) 11 nobodys)))
 
--- the owner with the mark; a number that is no world's where there is none
+-- the owner with the mark; a number that is no world's for every other mark
 unfoldable pub ownerOf : ℕ → ℕ
 ownerOf m = pick (eqb m 8) secure (pick (eqb m 9) normal (pick (eqb m 10) root (pick (eqb m 11) realm worlds)))
 

@@ -1,10 +1,11 @@
--- The state's own table of owners is one that unpacks: after any lines that set a window up, for as many pages as the window has, it is accepted, and each byte is the page's owner. The table has 256 numbers, as its type says.
+-- The state's own table of owners is one that unpacks: after any lines that set a window up, for as many pages as the window has, it is accepted, and each byte is the page's owner.
 use mathlib.Core.Path.{_≡_}
 use mathlib.Core.Bool.{true}
 use mathlib.Core.List.{List}
 use Prim.Native.Nat.{ℕ, _≤_}
 use native.Mathlib.Omega.{arith}
 use lib.ListN.{length}
+use Rattle.pages.specs.Owners.{WholeOwners, owners-long}
 use Rattle.pages.specs.Window.{Acceptable, accepted}
 use Rattle.setup.specs.Table.{ready}
 use Rattle.frames.specs.Frames.{Machine, first}
@@ -27,10 +28,15 @@ module _ (run : Events) (m : Machine) (given : List Reply) (f : Follows first ru
   own-window =
       by-following (λ (q : Machine) (answers : List Reply). ready (q .setup) ≡ true → Acceptable (window q)) f (λ e. accepted _ (ran-fit run .right e .window)) set
 
+  own-whole : WholeOwners (m .owners)
+  own-whole =
+      by-following (λ (q : Machine) (answers : List Reply). ready (q .setup) ≡ true → WholeOwners (q .owners)) f (λ e. ran-fit run .right e .whole .owners-whole) set
+
   -- Unpacked into any bytes that have room, it shows the owner of each page.
-  pub own-table : (bytes : List ℕ) (answer : ℕ) (bytes′ : List ℕ) → length (m .owners) ≡ 256 → window m .pages ≤ length bytes
+  pub own-table : (bytes : List ℕ) (answer : ℕ) (bytes′ : List ℕ) → window m .pages ≤ length bytes
       → (answer, bytes′) ≡ unpacked (window m .pages) (m .owners) bytes → Shown (window m .pages) (ownerIn m) bytes answer bytes′
-  own-table bytes answer bytes′ long enough promise =
+  own-table bytes answer bytes′ enough promise =
       let w = own-window in
+      let long = owners-long (m .owners) own-whole in
       let r : Room (window m .pages) bytes (m .owners) = record { some = w .some; most = w .most; bytes-fit = enough; numbers-fit = omega (arith, w .most) } in
       any-shown (window m .pages) (m .owners) (ownerIn m) own-marks bytes r answer bytes′ promise

@@ -1,6 +1,6 @@
 // The run over any bytes: each complete line of a chunk is answered, and what is unfinished waits for more.
 ghost use mathlib.Core.Path.{_≡_};
-ghost use Rattle.frames.specs.Frames.{machine};
+ghost use Rattle.frames.specs.Frames.{Machine, onMachine};
 ghost use Rattle.inputs.specs.Fed.{stand, fed};
 use cores::Powers;
 use cores::Turns;
@@ -31,7 +31,7 @@ pub fn feed(
     turns: &mut Turns,
     lists: &mut Lists,
 ) -> Fed
-    ensures { λ r. ⌜ stand (machine (now (setup .exit)) (now (named .exit)) (now (book .exit)) (now (owners .exit)) (now (saved .exit)) (now (powers .exit)) (now (turns .exit)) (now (lists .exit))) (r .used) (r .put) (now (out .exit)) ≡ fed (now (chunk .entry)) (stand (machine (now (setup .entry)) (now (named .entry)) (now (book .entry)) (now (owners .entry)) (now (saved .entry)) (now (powers .entry)) (now (turns .entry)) (now (lists .entry))) 0 0 (now (out .entry))) ⌝ }
+    ensures { λ r. ⌜ onMachine setup named book owners saved powers turns lists (λ (m m′ : Machine). stand m′ (r .used) (r .put) (now (out .exit)) ≡ fed (now (chunk .entry)) (stand m 0 0 (now (out .entry)))) ⌝ }
 {
     let mut x = [0u64; 8];
     let mut at: usize = 0;

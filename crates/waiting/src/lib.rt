@@ -1,7 +1,7 @@
 // What lies between a read and a write: the complete lines are answered, and an unfinished line waits at the front. Nothing here
 // reads or writes.
 ghost use mathlib.Core.Path.{_≡_};
-ghost use Rattle.frames.specs.Frames.{machine};
+ghost use Rattle.frames.specs.Frames.{Machine, onMachine};
 ghost use Rattle.inputs.specs.Waiting.{front, heard, served};
 ghost use Rattle.inputs.specs.Served.{Closed};
 use cores::Powers;
@@ -60,7 +60,7 @@ pub fn answer_read(
     turns: &mut Turns,
     lists: &mut Lists,
 ) -> Due
-    ensures { λ r. ⌜ (machine (now (setup .exit)) (now (named .exit)) (now (book .exit)) (now (owners .exit)) (now (saved .exit)) (now (powers .exit)) (now (turns .exit)) (now (lists .exit)), (front (r .put) (now (out .exit)), front (r .kept) (now (buf .exit)))) ≡ served (machine (now (setup .entry)) (now (named .entry)) (now (book .entry)) (now (owners .entry)) (now (saved .entry)) (now (powers .entry)) (now (turns .entry)) (now (lists .entry))) (heard (now (buf .entry)) kept n) ⌝ }
+    ensures { λ r. ⌜ onMachine setup named book owners saved powers turns lists (λ (m m′ : Machine). (m′, (front (r .put) (now (out .exit)), front (r .kept) (now (buf .exit)))) ≡ served m (heard (now (buf .entry)) kept n)) ⌝ }
 {
     let end = close(buf, kept, n);
     let bytes: &[u8] = buf;
