@@ -1,22 +1,23 @@
 -- The mappings that each world holds, how one is put among them and how one is taken out. Shut: the laws say the rest.
 use mathlib.Core.Path.{_≡_, refl, sym, ap, _∙_}
-use mathlib.Core.Bool.{true, false}
+use mathlib.Core.Bool.{true, false, _&&_}
 use mathlib.Core.List.{List, []}
 use mathlib.Core.Option.{none, some}
 use Prim.Native.Nat.{ℕ, _+_, _-_, _*_, _%_, _^_, _≤_, _<_}
 use native.Mathlib.Omega.{arith}
-use lib.Dec.{ltb}
+use lib.Dec.{ltb, eqb}
 use lib.ListN.{length}
-use borrow.Author.Tests.{lt-ltb, le-ltb, le-leb, lt-leb, ne-eqb, ltb-true, ltb-false}
-use Rattle.rules.specs.Choice.{either, yes-or-no}
+use borrow.Author.Tests.{lt-ltb, le-ltb, le-leb, lt-leb, ne-eqb, eq-eqb, eqb-true, eqb-false, ltb-true, ltb-false}
+use Rattle.rules.specs.Choice.{either, both-true, left-true, right-true, yes-or-no}
 use Rattle.rules.specs.Sizes.{worlds, pageSize, mostMappings}
 use Rattle.mapping.specs.Mapping.{onPages, anyOf, firstOf, clash, isFull, hasExactly, meetsRun, deciding, leading, leadOf, without}
 use Rattle.mapping.specs.Entries.{Inserted, first-missing, without-missing, deciding-low}
-use Rattle.ranges.specs.Question.{asksFree, asks}
+use Rattle.ranges.specs.Question.{asksFree, asks, answers}
+use Rattle.tools.specs.Search.{first}
 use Rattle.mapping.specs.Places.{gathered, lowest, lowest-any, lowest-none, lowest-first, lowest-free, room-left, none-left, filled-in, removed, gathered-same, gathered-none, gathered-some}
-pub use Rattle.places.specs.Table.{unmapped, WholeLists, unmapped-whole}
+pub use Rattle.places.specs.Table.{unmapped, WholeLists, unmapped-whole, place}
 use Rattle.places.specs.Found.{found}
-use Rattle.places.specs.Table.{blank, place, stored, stored-whole, stored-same, stored-other, place-no-world, stored-no-place, unmapped-blank}
+use Rattle.places.specs.Table.{blank, stored, stored-whole, stored-same, stored-other, place-no-world, stored-no-world, stored-no-place, unmapped-blank}
 use Rattle.ranges.specs.declared.Mapping.{Mapping}
 use Rattle.mapping.specs.declared.Lead.the-variants.{To, Nowhere}
 use Rattle.ranges.specs.declared.Question.{Question}
@@ -180,3 +181,62 @@ module _ (t : List ℕ) (w v s : ℕ) where
       let b : place (stored t w i blank) w i ≡ blank = stored-same t w i blank h k l in
       removed (place t w) (place (stored t w i blank) w) mostMappings v s l (λ j e. stored-other t w i blank w j (λ _ f. e f)) (rw b))
       (λ n. rw (released-none n, without-missing v s (held t w) n))
+
+-- ---- two tables with the same mappings of a world, place by place. That the lists are the same would not do: a mapping takes the lowest free place
+abbrev pub SamePlaces : ℕ → List ℕ → List ℕ → Type 0
+SamePlaces w t u = (i : ℕ) → place t w i ≡ place u w i
+
+-- a change of one world's mappings leaves every other world's places
+pub holding-places : (t : List ℕ) (w u : ℕ) (m : Mapping) → (u ≡ w → ⊥) → SamePlaces u (holding t w m) t
+unfolding holding
+holding-places t w u m d i = stored-other t w (found t w Free) m u i (λ e f. d e)
+
+pub released-places : (t : List ℕ) (w u v s : ℕ) → (u ≡ w → ⊥) → SamePlaces u (released t w v s) t
+unfolding released
+released-places t w u v s d i = stored-other t w (found t w (Exact v s)) blank u i (λ e f. d e)
+
+module _ (w : ℕ) (t u : List ℕ) (same : SamePlaces w t u) where
+  pub held-same : held t w ≡ held u w
+  unfolding held
+  held-same = gathered-same (place t w) (place u w) 0 mostMappings (λ i h l. same i)
+
+  found-same : (q : Question) → found t w q ≡ found u w q
+  unfolding found
+  found-same q = λ i. first (λ k. answers q (same k i)) 0 mostMappings
+
+  module _ (a : WholeLists t) (b : WholeLists u) where
+    -- one mapping put at one place of both
+    stored-both : (v i : ℕ) (m : Mapping) → SamePlaces w (stored t v i m) (stored u v i m)
+    stored-both v i m j =
+        either (eqb w v && eqb j i)
+        (λ y. let e : v ≡ w = sym (eqb-true w v (left-true (eqb w v) (eqb j i) y)) in
+        let f : i ≡ j = sym (eqb-true j i (right-true (eqb w v) (eqb j i) y)) in
+        rw (e, f) here)
+        (λ n. stored-other t v i m w j (apart n) ∙ same j ∙ sym (stored-other u v i m w j (apart n)))
+      where
+        here : place (stored t w j m) w j ≡ place (stored u w j m) w j
+        here =
+            either (ltb w worlds)
+            (λ y. either (ltb j mostMappings)
+            (λ z. let k = ltb-true w worlds y in let l = ltb-true j mostMappings z in stored-same t w j m a k l ∙ sym (stored-same u w j m b k l))
+            (λ z. let l = ltb-false j mostMappings z in rw (← stored-no-place w j t m l, ← stored-no-place w j u m l) (same j)))
+            (λ y. let k = ltb-false w worlds y in rw (← stored-no-world w j t m k, ← stored-no-world w j u m k) (same j))
+
+        apart : (eqb w v && eqb j i) ≡ false → w ≡ v → j ≡ i → ⊥
+        apart n e f = yes-or-no (eqb w v && eqb j i) (both-true (eqb w v) (eqb j i) (eq-eqb w v e) (eq-eqb j i f)) n
+
+    -- one change of both, at the place that each finds
+    changed-both : (v : ℕ) (q : Question) (m : Mapping) → SamePlaces w (stored t v (found t v q) m) (stored u v (found u v q) m)
+    changed-both v q m =
+        either (eqb w v)
+        (λ y. let e : v ≡ w = sym (eqb-true w v y) in rw (e, found-same q) (stored-both w (found u w q) m))
+        (λ n j. let d = eqb-false w v n in
+        stored-other t v (found t v q) m w j (λ e f. d e) ∙ same j ∙ sym (stored-other u v (found u v q) m w j (λ e f. d e)))
+
+    pub holding-both : (v : ℕ) (m : Mapping) → SamePlaces w (holding t v m) (holding u v m)
+    unfolding holding
+    holding-both v m = changed-both v Free m
+
+    pub released-both : (v x s : ℕ) → SamePlaces w (released t v x s) (released u v x s)
+    unfolding released
+    released-both v x s = changed-both v (Exact x s) blank

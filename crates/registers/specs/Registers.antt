@@ -1,17 +1,18 @@
 -- Nine saved numbers for each core and world, in one table. Only this file knows where in the table a number stands.
 use mathlib.Core.Path.{_≡_, refl, sym, _∙_}
+use mathlib.Core.Bool.{false, _&&_}
 use mathlib.Core.List.{List, [], _∷_}
 use mathlib.Core.Logic.{⊎-elim}
 use Prim.Native.Nat.{ℕ, zero, suc, _+_, _-_, _*_, _≤_, _<_}
 use native.Mathlib.Omega.{arith}
 use native.Mathlib.Numerals.{add-one}
 use native.Mathlib.Nat.{eq-or-lt-of-le}
-use lib.Dec.{ltb}
+use lib.Dec.{ltb, eqb}
 use lib.ListN.{length, getD, set, take, drop, replicate, length-set, length-take, length-replicate, List·getD-eq-default, drop-of-length-le}
 use lib.Seq.{sets, length-sets, getD-set-same, getD-set-other, getD-take, getD-drop, drop-cons}
-use borrow.Author.Tests.{lt-ltb, le-ltb, ltb-true, ltb-false}
+use borrow.Author.Tests.{lt-ltb, le-ltb, ltb-true, ltb-false, eqb-true, eq-eqb}
 use Rattle.rules.specs.Sizes.{worlds, mostCores}
-use Rattle.rules.specs.Choice.{pick, picked, passed, either}
+use Rattle.rules.specs.Choice.{pick, picked, passed, either, both-true, left-true, right-true, yes-or-no}
 use Rattle.registers.specs.declared.Start.{Start}
 use Rattle.registers.specs.declared.Start.the-variants.{At, Nowhere}
 use Rattle.registers.specs.declared.Shown.{Shown}
@@ -319,3 +320,24 @@ module _ (t : List ℕ) (c w : ℕ) (xs : List ℕ) where
 -- writing nothing changes nothing
 pub saving-none : (t : List ℕ) (c w : ℕ) → saving t c w [] ≡ t
 saving-none t c w = placed c w (λ h k e. saving-is t c w h k []) (λ e. saving-lost t c w e [])
+
+-- two tables that agree in a number agree in it once the same numbers are written to both
+pub saving-agree : (t q : List ℕ) (c w : ℕ) (xs : List ℕ) (d u j : ℕ) → Whole t → Whole q → saved t d u j ≡ saved q d u j
+    → saved (saving t c w xs) d u j ≡ saved (saving q c w xs) d u j
+saving-agree t q c w xs d u j a b e =
+    numbered d u j
+    (λ h k l. either (eqb c d && eqb w u)
+    (λ y. let f : c ≡ d = eqb-true c d (left-true (eqb c d) (eqb w u) y) in
+    let g : w ≡ u = eqb-true w u (right-true (eqb c d) (eqb w u) y) in
+    rw (f, g) (here h k l))
+    (λ n. saving-other t c w xs d u j (apart n) ∙ e ∙ sym (saving-other q c w xs d u j (apart n))))
+    (λ z. z (saving t c w xs) ∙ sym (z (saving q c w xs)))
+  where
+    here : d < mostCores → u < worlds → j < each → saved (saving t d u xs) d u j ≡ saved (saving q d u xs) d u j
+    here h k l =
+        either (ltb j (length xs))
+        (λ y. let m = ltb-true j (length xs) y in saving-at t d u xs j a h k l m ∙ sym (saving-at q d u xs j b h k l m))
+        (λ n. let m = ltb-false j (length xs) n in saving-past t d u xs j m ∙ e ∙ sym (saving-past q d u xs j m))
+
+    apart : (eqb c d && eqb w u) ≡ false → c ≡ d → w ≡ u → ⊥
+    apart n f g = yes-or-no (eqb c d && eqb w u) (both-true (eqb c d) (eqb w u) (eq-eqb c d f) (eq-eqb w u g)) n
