@@ -1,13 +1,13 @@
 -- What a granted transfer says of its run, and what it leaves: the owner of each page, and the mappings of every world.
 use mathlib.Core.Path.{_≡_, refl, ap, _∙_}
-use mathlib.Core.Bool.{true, false, not}
+use mathlib.Core.Bool.{Bool, true, false, not}
 use mathlib.Core.List.{List, [], _∷_}
 use Prim.Native.Nat.{ℕ, _+_, _≤_, _<_}
 use native.Mathlib.Omega.{arith}
 use lib.Dec.{eqb}
 use borrow.Author.Tests.{eqb-false, not-false}
-use Rattle.rules.specs.Choice.{pick, chosen}
-use Rattle.rules.specs.Tests.{Test, Clear, refuses, sieve, sieved}
+use Rattle.rules.specs.Choice.{pick, chosen, chosen-two}
+use Rattle.rules.specs.Tests.{Test, Clear, refuses, sieve, sieved, sieved-two}
 use Rattle.rules.specs.Reasons.{minus}
 use Rattle.rules.specs.declared.Reason.{Reason}
 use Rattle.rules.specs.declared.Reason.the-variants.{NoPages, Invalid, WrongOwner, Mapped}
@@ -88,3 +88,30 @@ one-page w o list from start r e m = never (runOf w start 1) e
     never (Page first) e =
         chosen (λ (v : Verdict). v ≡ No r → ⊥) (not (owned o first 1 from)) _ _ (λ y. another WrongOwner (λ z. omega arith))
         (λ n. chosen (λ (v : Verdict). v ≡ No r → ⊥) (meetsRun list start 1) _ _ (λ y. another Mapped (λ z. omega arith)) (λ n e. let z : _≡_ {A = ℕ} 0 1 = cc in absurd (omega arith))) e
+
+-- ---- the giver's list is looked at last, and only for whether it forbids
+-- one grants what the other refuses
+abbrev pub Parted : Verdict → Verdict → Type 0
+Parted v u = (first : ℕ) (r : Reason) → v ≡ Granted first → u ≡ No r → ⊥
+
+-- one verdict, where neither grants what the other refuses
+abbrev pub OneVerdict : Verdict → Verdict → Type 0
+OneVerdict v u = Parted v u → Parted u v → v ≡ u
+
+module _ (w : Window) (o : List ℕ) (list other : List Mapping) (from start count : ℕ) where
+  last-test : (first : ℕ) (a b : Bool) → OneVerdict (pick a (No Mapped) (Granted first)) (pick b (No Mapped) (Granted first))
+  unfolding pick
+  last-test first true true f g = refl
+  last-test first true false f g = absurd (g first Mapped refl refl)
+  last-test first false true f g = absurd (f first Mapped refl refl)
+  last-test first false false f g = refl
+
+  there-same : (k : Place) → OneVerdict (moveTests k o list from start count) (moveTests k o other from start count)
+  unfolding moveTests sieve
+  there-same Outside = λ f g. refl
+  there-same (Page first) = chosen-two OneVerdict _ _ _ _ _ (λ e f g. refl) (λ e. last-test first _ _)
+
+  -- Two lists of the giver's give a transfer one verdict, unless one of them allows it and the other forbids it.
+  pub verdict-same : OneVerdict (transferVerdict w o list from start count) (transferVerdict w o other from start count)
+  unfolding transferVerdict
+  verdict-same = sieved-two OneVerdict No No _ _ _ (λ r f g. refl) (λ c. there-same (runOf w start count))
