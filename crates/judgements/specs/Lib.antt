@@ -1,8 +1,10 @@
 pub mod Names
 pub mod Judge
+pub mod Alike
 pub mod Laws
 pub mod Grounds
 pub mod Asked
 pub mod Decided
 pub mod Granules
 pub mod Hint
+pub mod Quiet
