@@ -5,7 +5,7 @@ use mathlib.Core.List.{List, [], _∷_}
 use Prim.Native.Nat.{ℕ}
 use native.Mathlib.Omega.{arith}
 use Rattle.rules.specs.Choice.{either}
-use Rattle.rules.specs.Tests.{Test, refuses, sieve, stops, goes, ends}
+use Rattle.rules.specs.Tests.{Test, refuses, sieve, Clear, sieved-two, stops, goes, ends}
 use Rattle.parsing.specs.declared.Status.{Status}
 use Rattle.parsing.specs.declared.Status.the-variants.{Accepted, Misplaced, OutOfRange, Clash}
 
@@ -68,3 +68,10 @@ ruled-told told deny misplaced outside clash done =
     (λ b. either clash
     (λ c. ap told (sym (ruled-clash deny misplaced outside clash done _ a b c refl)) ∙ ruled-clash _ misplaced outside clash _ _ a b c refl)
     (λ c. ap told (sym (ruled-done deny misplaced outside clash done _ a b c refl)) ∙ ruled-done _ misplaced outside clash _ _ a b c refl)))
+
+-- a statement about two frames by one list of rows
+pub ruled-two : {A B : Type 0} (P : A → B → Type 0) (deny : Status → A) (refuse : Status → B) (misplaced outside clash : Bool) (done : A) (made : B)
+    → ((why : Status) → P (deny why) (refuse why)) → (misplaced ≡ false → outside ≡ false → clash ≡ false → P done made)
+    → P (ruled deny misplaced outside clash done) (ruled refuse misplaced outside clash made)
+unfolding ruled Clear
+ruled-two P deny refuse misplaced outside clash done made f g = sieved-two P deny refuse (rows misplaced outside clash) done made f (λ h. g (h .0) (h .1 .0) (h .1 .1 .0))

@@ -107,3 +107,8 @@ module _ (s : List ℕ) where
   pub over-cores : cores (over s) ≡ cores s
   unfolding cores over
   over-cores = refl
+
+  -- it ends once
+  pub over-again : over (over s) ≡ over s
+  unfolding over
+  over-again = refl
