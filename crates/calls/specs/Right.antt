@@ -70,7 +70,8 @@ handed-running to p t o = record { world = inr t; away = λ n. o }
 same-or-other : {P : Type 0} (c core : ℕ) → (c ≡ core → P) → ((c ≡ core → ⊥) → P) → P
 same-or-other c core y n = either (eqb c core) (λ e. y (eqb-true c core e)) (λ e. n (eqb-false c core e))
 
-is-world : (w : ℕ) → Calls w → w < 4
+-- a world that calls is one of the four
+pub is-world : (w : ℕ) → Calls w → w < 4
 is-world w c = ⊎-elim (λ (e : w ≡ normal). omega arith) (λ (t : Takes w). ⊎-elim (λ (e : w ≡ secure). omega arith) (λ (e : w ≡ realm). omega arith) t) c
 
 -- a core that is ON is one of the board's
