@@ -1,16 +1,18 @@
 -- What is so of the machine at every time, from the first line on: every line keeps it, whatever it is.
-use mathlib.Core.Path.{_≡_, refl, sym, _∙_}
+use mathlib.Core.Path.{_≡_, refl, sym, ap, _∙_}
 use mathlib.Core.Bool.{true, false, _&&_}
 use mathlib.Core.List.{List}
-use Prim.Native.Nat.{ℕ, _+_, _≤_}
+use Prim.Native.Nat.{ℕ, _+_, _≤_, _<_}
 use native.Mathlib.Omega.{arith}
-use lib.Dec.{leb}
-use borrow.Author.Tests.{leb-true}
-use Rattle.rules.specs.Sizes.{root, mostCores}
-use Rattle.rules.specs.Choice.{left-true, right-true, yes-or-no}
+use lib.Dec.{leb, eqb}
+use borrow.Author.Tests.{leb-true, eqb-true, eqb-false}
+use Rattle.rules.specs.Sizes.{root, normal, mostCores}
+use Rattle.rules.specs.Choice.{either, left-true, right-true, yes-or-no}
 use Rattle.ledger.specs.Ledger.{empty}
 use Rattle.registers.specs.Registers.{zeros}
-use Rattle.cores.specs.Cores.{firstPowers, firstTurns}
+use Rattle.cores.specs.Power.{isPending}
+use Rattle.cores.specs.Cores.{power, turn, firstPowers, firstTurns, first-turn}
+use Rattle.cores.specs.declared.Turn.{Turn}
 use Rattle.pages.specs.Window.{acceptable, accepted}
 use Rattle.pages.specs.Owners.{unowned, unowned-whole, unowned-packed, given, given-whole, given-packed, given-opens}
 use Rattle.pages.specs.Named.{WholeNamed, unnamed-whole, marked-whole}
@@ -18,10 +20,11 @@ use Rattle.pages.specs.Naming.{naming-granted}
 use Rattle.mapping.specs.Lists.{unmapped, held-unmapped}
 use Rattle.mapping.specs.Sound.{sound-none}
 use Rattle.calls.specs.Step.{State, state}
+use Rattle.calls.specs.Effects.{afterArrival, arrival-turns, arrived-runs}
 use Rattle.calls.specs.Right.{Right, called-right, arrival-right, first-right}
 use Rattle.calls.specs.declared.Site.{Site}
 use Rattle.parsing.specs.declared.Frame.{Frame}
-use Rattle.setup.specs.Table.{ready, ended, window, cores, unset-ready, unset-ended, fixed-ready, fixed-ended, fixed-window, fixed-cores, over-ready, over-ended}
+use Rattle.setup.specs.Table.{ready, ended, window, cores, unset-ready, unset-ended, fixed-ready, fixed-ended, fixed-window, fixed-cores, over, over-ready, over-ended, over-again}
 use Rattle.setup.specs.Frames.{fits}
 use Rattle.calling.specs.Calling.{performed}
 use Rattle.frames.specs.Frames.{Machine, first, stateOf}
@@ -38,6 +41,10 @@ pub record Fit (m : Machine) : Type 0 where
   pub bare : ended (m .setup) ≡ false → m .lists ≡ unmapped
   pub names : WholeNamed (m .named)
   pub ready : ended (m .setup) ≡ true → ready (m .setup) ≡ true
+  -- until set-up has ended every core runs Normal
+  pub home : ended (m .setup) ≡ false → (core : ℕ) → core < mostCores → turn (m .turns) core .world ≡ normal
+  -- once it has ended there is nothing left to end
+  pub settled : ended (m .setup) ≡ true → over (m .setup) ≡ m .setup
 
 -- ---- the start
 pub first-fit : Fit first
@@ -48,6 +55,8 @@ first-fit =
       bare = λ e. refl;
       names = unnamed-whole;
       ready = λ e. absurd (yes-or-no _ e unset-ended);
+      home = λ e core h. ap (λ (t : Turn). t .world) (first-turn core h);
+      settled = λ e. absurd (yes-or-no _ e unset-ended);
     }
 
 -- ---- each frame that is accepted
@@ -105,6 +114,14 @@ entry-right s r l =
       absent = r .absent;
     }
 
+-- where every core runs Normal an arrival changes nothing about that
+arrival-home : (s : State) → Right s → (core : ℕ) → isPending (power (s .powers) core) ≡ true → ((c : ℕ) → c < mostCores → turn (s .turns) c .world ≡ normal)
+    → (c : ℕ) → c < mostCores → turn (afterArrival s core .turns) c .world ≡ normal
+arrival-home s r core p f c l =
+    either (eqb c core)
+    (λ y. let e : c ≡ core = eqb-true c core y in rw e (arrived-runs s core p (omega arith) (r .whole .turns-whole)))
+    (λ n. ap (λ (t : Turn). t .world) (arrival-turns s core c (eqb-false c core n)) ∙ f c l)
+
 -- ---- any line
 pub fit-next : (m : Machine) (e : Event) → Fit m → Fit (next m e)
 unfolding performed
@@ -121,9 +138,11 @@ fit-next m e h =
       bare = λ k. h .bare (sym (fixed-ended s base pages count) ∙ k);
       names = h .names;
       ready = λ k. fixed-ready s base pages count;
+      home = λ k. h .home (sym (fixed-ended s base pages count) ∙ k);
+      settled = λ k. absurd (yes-or-no _ (h .ready (sym (fixed-ended s base pages count) ∙ k)) a);
     })
     (λ first last kind number a b c.
-    record { idle = λ k. absurd (yes-or-no _ a k); right = λ k. entry-right (stateOf m) (h .right a) _; bare = h .bare; names = h .names; ready = h .ready })
+    record { idle = λ k. absurd (yes-or-no _ a k); right = λ k. entry-right (stateOf m) (h .right a) _; bare = h .bare; names = h .names; ready = h .ready; home = h .home; settled = h .settled })
     (λ first count to a b c.
     let g = naming-granted (m .owners) (m .named) (window (m .setup) .pages) first count to c in
     record {
@@ -132,6 +151,8 @@ fit-next m e h =
       bare = h .bare;
       names = rw (g .named-are) (marked-whole (m .named) first count (h .names));
       ready = h .ready;
+      home = h .home;
+      settled = h .settled;
     })
     (λ core a b c.
     record {
@@ -140,6 +161,8 @@ fit-next m e h =
       bare = λ k. absurd (yes-or-no _ (over-ended (m .setup)) k);
       names = h .names;
       ready = λ k. over-ready (m .setup) ∙ a;
+      home = λ k. absurd (yes-or-no _ (over-ended (m .setup)) k);
+      settled = λ k. over-again (m .setup);
     })
     (λ core a b c.
     record {
@@ -148,6 +171,8 @@ fit-next m e h =
       bare = h .bare;
       names = h .names;
       ready = h .ready;
+      home = λ k. arrival-home (stateOf m) (h .right a) core c (h .home k);
+      settled = h .settled;
     })
     (e .0)
 
