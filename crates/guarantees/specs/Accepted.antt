@@ -2,7 +2,6 @@
 use mathlib.Core.Path.{_≡_, refl, sym, ap, _∙_}
 use mathlib.Core.Bool.{true}
 use mathlib.Core.List.{List}
-use mathlib.Core.Logic.{⊎-elim}
 use Prim.Native.Nat.{ℕ, _<_}
 use native.Mathlib.Omega.{arith}
 use Rattle.registers.specs.Registers.{saved}
@@ -10,10 +9,10 @@ use Rattle.cores.specs.Power.{isOn}
 use Rattle.cores.specs.Cores.{power}
 use Rattle.pages.specs.Window.{runOf}
 use Rattle.pages.specs.declared.Place.the-variants.{Page}
-use Rattle.rules.specs.Sizes.{secure, normal, realm, mostCores}
+use Rattle.rules.specs.Sizes.{mostCores}
 use Rattle.judgements.specs.Judge.{Sight, oneOf, callers}
 use Rattle.judgements.specs.Asked.{Reached, called-for}
-use Rattle.judgements.specs.Grounds.{Calls, Takes}
+use Rattle.judgements.specs.Grounds.{Calls}
 use Rattle.judgements.specs.Decided.{Decided, asked-transfer, MovesRun}
 use Rattle.judgements.specs.declared.Answer.the-variants.{Done}
 use Rattle.judgements.specs.declared.Deed.{Deed}
@@ -21,7 +20,7 @@ use Rattle.judgements.specs.declared.Deed.the-variants.{Move}
 use Rattle.calls.specs.Step.{sight, callerOf, judgedIn}
 use Rattle.calls.specs.Effects.{after, deedIn, answerIn}
 use Rattle.calls.specs.Left.{done-zero, zero-done}
-use Rattle.calls.specs.Right.{Right}
+use Rattle.calls.specs.Right.{Right, is-world}
 use Rattle.parsing.specs.declared.Frame.{Frame}
 use Rattle.parsing.specs.declared.Frame.the-variants as Frame
 use Rattle.setup.specs.Table.{ready, cores}
@@ -76,10 +75,7 @@ module _ (m : Machine) (fit : Fit m) (e : Event) (core : ℕ) (is : e .0 ≡ Fra
   may = is-caller (callerOf (stateOf m) core) world
 
   pub calling : callerOf (stateOf m) core < 4
-  calling =
-      ⊎-elim (λ (k : callerOf (stateOf m) core ≡ normal). omega arith)
-      (λ (k : Takes (callerOf (stateOf m) core)). ⊎-elim (λ (k : callerOf (stateOf m) core ≡ secure). omega arith) (λ (k : callerOf (stateOf m) core ≡ realm). omega arith) k)
-      world
+  calling = is-world (callerOf (stateOf m) core) world
 
   -- ---- what the machine then has
   pub saved-are : next m e .saved ≡ after (stateOf m) core (e .1) .saved
