@@ -1,6 +1,6 @@
 // A line of bytes read as a frame, or refused: the part of the frame program that needs no state.
 ghost use mathlib.Core.Path.{_≡_};
-ghost use Rattle.parsing.specs.Frame.{siteIn, entryIn, nameIn, callIn, arrivalIn, sized, known, frameOf, isCall, parsed};
+ghost use Rattle.parsing.specs.Frame.{statusByte, siteIn, entryIn, nameIn, callIn, arrivalIn, sized, known, frameOf, isCall, parsed};
 
 // The most digits of a line: a call's.
 pub const MOST: usize = 132;
@@ -50,6 +50,20 @@ pub enum Frame {
         core: u64,
     },
     Refused(Status),
+}
+
+// The paper's byte of a status.
+pub fn byte_of(s: Status) -> u64
+    ensures { λ r. ⌜ r ≡ statusByte s ⌝ }
+{
+    match s {
+        Status::Accepted => 0x00,
+        Status::NoHex => 0x71,
+        Status::Unknown => 0x72,
+        Status::Misplaced => 0x73,
+        Status::OutOfRange => 0x74,
+        Status::Clash => 0x75,
+    }
 }
 
 // 11: the window and the cores, eight bytes, two and one.

@@ -5,27 +5,12 @@ ghost use mathlib.Core.List.{[], _∷_};
 ghost use Prim.Native.Nat.{_+_, _≤_};
 ghost use lib.ListN.{length};
 ghost use Rattle.tools.specs.Laid.{put};
-ghost use Rattle.parsing.specs.Frame.{statusByte};
 ghost use Rattle.text.specs.Text.{headText, statusText, callText};
 
 // The size of each answer: a status, and a call, the longest.
 const STATUS: usize = 5;
 
 pub const LONGEST: usize = 71;
-
-// The paper's byte of a status.
-fn byte_of(s: Status) -> u64
-    ensures { λ r. ⌜ r ≡ statusByte s ⌝ }
-{
-    match s {
-        Status::Accepted => 0x00,
-        Status::NoHex => 0x71,
-        Status::Unknown => 0x72,
-        Status::Misplaced => 0x73,
-        Status::OutOfRange => 0x74,
-        Status::Clash => 0x75,
-    }
-}
 
 // The newline, where there is room for it.
 fn put_end(out: &mut [u8], at: usize) -> usize
@@ -60,7 +45,7 @@ pub fn put_status(out: &mut [u8], at: usize, s: Status) -> usize
         return at;
     }
     let a = hex_write::put_byte(out, at, 0xa0);
-    let b = hex_write::put_byte(out, a, byte_of(s));
+    let b = hex_write::put_byte(out, a, parsing::byte_of(s));
     put_end(out, b)
 }
 

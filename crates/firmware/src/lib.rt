@@ -1,0 +1,284 @@
+// The monitor for firmware in C: a thin function for each thing that a board does. Every table is lent by the caller, and passes as
+// a plain pointer; what is an enum here is the paper's number there. include/chiarumbeta.h declares them.
+ghost use mathlib.Core.Path.{_≡_};
+ghost use Rattle.pages.specs.Owners.{owner};
+ghost use Rattle.registers.specs.Registers.{saved};
+ghost use Rattle.mapping.specs.Lists.{held};
+ghost use Rattle.mapping.specs.Mapping.{leadOf};
+ghost use Rattle.calls.specs.Step.{state, coreTables};
+ghost use Rattle.setup.specs.Frames.{sited, entering, namingIn};
+ghost use Rattle.calling.specs.Calling.{siteOf, shownIn};
+ghost use Rattle.arriving.specs.Arriving.{arriving};
+ghost use Rattle.frames.specs.Frames.{machine, first};
+ghost use Rattle.inputs.specs.Fed.{stand, fed};
+ghost use Rattle.showing.specs.Showing.{shownOn};
+ghost use Rattle.firmware.specs.Numbers.{inByte, results, refusal, telling, callTold, ledTo, fedInto};
+use calling::Tried;
+use calls::Made;
+use cores::Powers;
+use cores::Turns;
+use judgements::Answer;
+use ledger::Ledger;
+use mapping::Lead;
+use mapping::Lists;
+use pages::Named;
+use pages::Owners;
+use registers::Saved;
+use rules::Reason;
+use setup::Setup;
+use showing::Reply;
+
+// What is told of a call: the world that then runs or 255, x0 to x3, who called, how many results were written, the refusal.
+pub type Told = [u64; 8];
+
+// Where an address leads: physical address and attributes.
+pub type Leading = [u64; 2];
+
+// How far a chunk was read, and how much was printed.
+pub type Counts = [usize; 2];
+
+// Every table as it is before the first frame.
+#[no_mangle]
+pub extern "C" fn chiarumbeta_lent_fresh(
+    setup: &mut Setup,
+    named: &mut Named,
+    book: &mut Ledger,
+    owners: &mut Owners,
+    saved: &mut Saved,
+    powers: &mut Powers,
+    turns: &mut Turns,
+    lists: &mut Lists,
+)
+    ensures { λ _. ⌜ machine (now (setup .exit)) (now (named .exit)) (now (book .exit)) (now (owners .exit)) (now (saved .exit)) (now (powers .exit)) (now (turns .exit)) (now (lists .exit)) ≡ first ⌝ }
+{
+    *setup = setup::fresh();
+    *named = pages::fresh_named();
+    *book = ledger::fresh();
+    *owners = pages::fresh_owners();
+    *saved = registers::fresh();
+    *powers = cores::fresh_powers();
+    *turns = cores::fresh_turns();
+    *lists = mapping::fresh();
+}
+
+// Set-up, first step: the site.
+#[no_mangle]
+pub extern "C" fn chiarumbeta_lent_fix_site(
+    setup: &mut Setup,
+    owners: &mut Owners,
+    base: u64,
+    pages: u64,
+    cores: u64,
+) -> u64
+    ensures { λ r. ⌜ ((now (setup .exit), now (owners .exit)), r) ≡ inByte (sited (now (setup .entry)) (now (owners .entry)) base pages cores) ⌝ }
+{
+    let status = setup::fix_site(setup, owners, base, pages, cores);
+    parsing::byte_of(status)
+}
+
+// Set-up: an entry of the ledger.
+#[no_mangle]
+pub extern "C" fn chiarumbeta_lent_enter_pairs(
+    setup: &Setup,
+    book: &mut Ledger,
+    lowest: u64,
+    last: u64,
+    kind: u64,
+    handler: u64,
+) -> u64
+    ensures { λ r. ⌜ (now (book .exit), r) ≡ inByte (entering (now (setup .entry)) (now (book .entry)) lowest last kind handler) ⌝ }
+{
+    let status = setup::enter_pairs(setup, book, lowest, last, kind, handler);
+    parsing::byte_of(status)
+}
+
+// Set-up: pages are named, and given to their owner.
+#[no_mangle]
+pub extern "C" fn chiarumbeta_lent_name_pages(
+    setup: &Setup,
+    owners: &mut Owners,
+    named: &mut Named,
+    lowest: u64,
+    count: u64,
+    to: u64,
+) -> u64
+    ensures { λ r. ⌜ ((now (owners .exit), now (named .exit)), r) ≡ inByte (namingIn (now (setup .entry)) (now (owners .entry)) (now (named .entry)) lowest count to) ⌝ }
+{
+    let status = setup::name_pages(setup, owners, named, lowest, count, to);
+    parsing::byte_of(status)
+}
+
+// How many numbers an answer writes for its caller.
+fn results_of(a: Answer) -> u64
+    ensures { λ r. ⌜ r ≡ results a ⌝ }
+{
+    match a {
+        Answer::Version => 1,
+        Answer::PowerVersion => 1,
+        Answer::Done => 1,
+        Answer::On => 1,
+        Answer::Off => 1,
+        Answer::Pending => 1,
+        Answer::Owns(_) => 1,
+        Answer::Leads { phys: _, attr: _ } => 3,
+        Answer::Count(_) => 1,
+        Answer::Silent => 0,
+        Answer::No(_) => 1,
+    }
+}
+
+// n where a call is refused with -n, else 0.
+fn refusal_of(a: Answer) -> u64
+    ensures { λ r. ⌜ r ≡ refusal a ⌝ }
+{
+    match a {
+        Answer::Version => 0,
+        Answer::PowerVersion => 0,
+        Answer::Done => 0,
+        Answer::On => 0,
+        Answer::Off => 0,
+        Answer::Pending => 0,
+        Answer::Owns(_) => 0,
+        Answer::Leads { phys: _, attr: _ } => 0,
+        Answer::Count(_) => 0,
+        Answer::Silent => 0,
+        Answer::No(r) => rules::minus_of(r),
+    }
+}
+
+// What is told of an accepted call.
+fn tell(told: &mut Told, made: Made, core: u64, saved: &Saved, powers: &Powers, turns: &Turns)
+    ensures { λ _. ⌜ now (told .exit) ≡ telling (now (told .entry)) made (shownOn core (now (saved .entry)) (now (powers .entry)) (now (turns .entry))) ⌝ }
+{
+    let reply = showing::show(core, saved, powers, turns);
+    let Reply::Called {
+        core: _,
+        world,
+        shown,
+    } = reply
+    else {
+        return;
+    };
+    let answer = made.answer;
+    let written = results_of(answer);
+    let refused = refusal_of(answer);
+    *told = [
+        world,
+        shown.x0,
+        shown.x1,
+        shown.x2,
+        shown.x3,
+        made.caller,
+        written,
+        refused,
+    ];
+}
+
+// A call by the world that runs on a core, with its eight numbers.
+#[no_mangle]
+pub extern "C" fn chiarumbeta_lent_call(
+    setup: &mut Setup,
+    core: u64,
+    x: &[u64; 8],
+    told: &mut Told,
+    book: &Ledger,
+    owners: &mut Owners,
+    saved: &mut Saved,
+    powers: &mut Powers,
+    turns: &mut Turns,
+    lists: &mut Lists,
+) -> u64
+    ensures { λ r. ⌜ (((now (setup .exit), state (siteOf (now (setup .entry))) (now (book .entry)) (now (owners .exit)) (now (saved .exit)) (now (powers .exit)) (now (turns .exit)) (now (lists .exit))), now (told .exit)), r) ≡ callTold (now (setup .entry)) (state (siteOf (now (setup .entry))) (now (book .entry)) (now (owners .entry)) (now (saved .entry)) (now (powers .entry)) (now (turns .entry)) (now (lists .entry))) (now (told .entry)) core (now (x .entry)) ⌝ }
+{
+    let tried = calling::try_call(setup, core, x, book, owners, saved, powers, turns, lists);
+    match tried {
+        Tried::Refused(why) => parsing::byte_of(why),
+        Tried::Called(made) => {
+            tell(told, made, core, saved, powers, turns);
+            0
+        }
+    }
+}
+
+// A pending core arrives.
+#[no_mangle]
+pub extern "C" fn chiarumbeta_lent_arrive(
+    setup: &Setup,
+    core: u64,
+    saved: &mut Saved,
+    powers: &mut Powers,
+    turns: &mut Turns,
+) -> u64
+    ensures { λ r. ⌜ (coreTables (now (saved .exit)) (now (powers .exit)) (now (turns .exit)), r) ≡ inByte (arriving (now (setup .entry)) (coreTables (now (saved .entry)) (now (powers .entry)) (now (turns .entry))) core) ⌝ }
+{
+    let status = arriving::make_arrival(setup, core, saved, powers, turns);
+    parsing::byte_of(status)
+}
+
+// Where an address of a world leads.
+#[no_mangle]
+pub extern "C" fn chiarumbeta_lent_where(
+    lists: &Lists,
+    world: u64,
+    address: u64,
+    leading: &mut Leading,
+) -> u64
+    ensures { λ r. ⌜ (now (leading .exit), r) ≡ ledTo (now (leading .entry)) (leadOf (held (now (lists .entry)) world) address) ⌝ }
+{
+    let lead = mapping::lead_of(lists, world, address);
+    match lead {
+        Lead::To { phys, attr } => {
+            *leading = [phys, attr];
+            0
+        }
+        Lead::Nowhere => rules::minus_of(Reason::Nowhere),
+    }
+}
+
+// The owner of a page of the window.
+#[no_mangle]
+pub extern "C" fn chiarumbeta_lent_owner(owners: &Owners, page: u64) -> u64
+    ensures { λ r. ⌜ r ≡ owner (now (owners .entry)) page ⌝ }
+{
+    pages::owner_of(owners, page)
+}
+
+// One of the nine numbers that are saved for a core and world.
+#[no_mangle]
+pub extern "C" fn chiarumbeta_lent_number(t: &Saved, core: u64, world: u64, i: u64) -> u64
+    ensures { λ r. ⌜ r ≡ saved (now (t .entry)) core world i ⌝ }
+{
+    registers::number(t, core, world, i)
+}
+
+// The bytes of a run: each complete line of the chunk is answered.
+#[no_mangle]
+pub extern "C" fn chiarumbeta_lent_feed(
+    chunk: &[u8],
+    out: &mut [u8],
+    counts: &mut Counts,
+    setup: &mut Setup,
+    named: &mut Named,
+    book: &mut Ledger,
+    owners: &mut Owners,
+    saved: &mut Saved,
+    powers: &mut Powers,
+    turns: &mut Turns,
+    lists: &mut Lists,
+)
+    ensures { λ _. ⌜ ((machine (now (setup .exit)) (now (named .exit)) (now (book .exit)) (now (owners .exit)) (now (saved .exit)) (now (powers .exit)) (now (turns .exit)) (now (lists .exit)), now (out .exit)), now (counts .exit)) ≡ fedInto (fed (now (chunk .entry)) (stand (machine (now (setup .entry)) (now (named .entry)) (now (book .entry)) (now (owners .entry)) (now (saved .entry)) (now (powers .entry)) (now (turns .entry)) (now (lists .entry))) 0 0 (now (out .entry)))) ⌝ }
+{
+    let fed = stream::feed(
+        chunk,
+        out,
+        setup,
+        named,
+        book,
+        owners,
+        saved,
+        powers,
+        turns,
+        lists,
+    );
+    *counts = [fed.used, fed.put];
+}
