@@ -29,9 +29,8 @@ use Rattle.calling.specs.Calling.{trying, shownIn}
 use Rattle.calling.specs.declared.Tried.{Tried}
 use Rattle.calling.specs.declared.Tried.the-variants as Tried
 use Rattle.setup.specs.Table.{unset}
-use Rattle.frames.specs.Frames.{Machine, machine, first}
-use Rattle.inputs.specs.Fed.{Stand, stand}
-use Rattle.firmware.specs.Numbers.{inByte, results, refusal, telling, callTold, ledTo, fedInto}
+use Rattle.frames.specs.Frames.{machine, first}
+use Rattle.firmware.specs.Numbers.{inByte, results, refusal, telling, callTold, ledTo}
 
 -- ---- fresh tables
 pub all-fresh : (s n l o v p t k : List ℕ) → s ≡ unset → n ≡ unnamed → l ≡ empty → o ≡ unowned → v ≡ zeros → p ≡ firstPowers → t ≡ firstTurns → k ≡ unmapped
@@ -77,10 +76,6 @@ module _ (l : List ℕ) (a b : Lead) (is : a ≡ b) where
   leads-nowhere n e f = rw (← is, e, f)
 
 pub ruleset leadings = (leads-to, leads-nowhere)
-
--- ---- a feed
-pub feeds : (m : Machine) (out : List ℕ) (used put : ℕ) (d : Stand) → stand m used put out ≡ d → ((m, out), used ∷ put ∷ []) ≡ fedInto d
-feeds m out used put d is = rw (← is)
 
 -- ---- what the numbers mean
 -- as many results as the answer writes

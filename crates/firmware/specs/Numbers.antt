@@ -17,8 +17,6 @@ use Rattle.showing.specs.declared.Reply.the-variants as Reply
 use Rattle.calling.specs.Calling.{trying, shownIn}
 use Rattle.calling.specs.declared.Tried.{Tried}
 use Rattle.calling.specs.declared.Tried.the-variants as Tried
-use Rattle.frames.specs.Frames.{Machine}
-use Rattle.inputs.specs.Fed.{Stand}
 
 -- ---- set-up and arrivals: what is left, and the paper's byte of the status
 abbrev pub inByte : {A : Type 0} → A × Status → A × ℕ
@@ -77,7 +75,3 @@ callTold s w told core xs = answering told core (trying s w core xs)
 abbrev pub ledTo : List ℕ → Lead → List ℕ × ℕ
 ledTo l (Lead.To phys attr) = (phys ∷ attr ∷ [], 0)
 ledTo l Lead.Nowhere = (l, minus Reason.Nowhere)
-
--- ---- a feed: the machine and what is printed, then how far it was read and how much was printed
-abbrev pub fedInto : Stand → (Machine × List ℕ) × List ℕ
-fedInto d = ((d .machine, d .out), d .read ∷ d .done ∷ [])

@@ -2,7 +2,7 @@
 // a plain pointer; what is an enum here is the paper's number there. include/chiarumbeta.h declares them.
 ghost use mathlib.Core.Path.{_≡_};
 ghost use Rattle.pages.specs.Owners.{owner};
-ghost use Rattle.registers.specs.Registers.{saved};
+ghost use Rattle.registers.specs.Registers.{saved as numberSaved};
 ghost use Rattle.mapping.specs.Lists.{held};
 ghost use Rattle.mapping.specs.Mapping.{leadOf};
 ghost use Rattle.calls.specs.Step.{state, coreTables};
@@ -10,9 +10,8 @@ ghost use Rattle.setup.specs.Frames.{sited, entering, namingIn};
 ghost use Rattle.calling.specs.Calling.{siteOf, shownIn};
 ghost use Rattle.arriving.specs.Arriving.{arriving};
 ghost use Rattle.frames.specs.Frames.{machine, first};
-ghost use Rattle.inputs.specs.Fed.{stand, fed};
 ghost use Rattle.showing.specs.Showing.{shownOn};
-ghost use Rattle.firmware.specs.Numbers.{inByte, results, refusal, telling, callTold, ledTo, fedInto};
+ghost use Rattle.firmware.specs.Numbers.{inByte, results, refusal, telling, callTold, ledTo};
 use calling::Tried;
 use calls::Made;
 use cores::Powers;
@@ -33,9 +32,6 @@ pub type Told = [u64; 8];
 
 // Where an address leads: physical address and attributes.
 pub type Leading = [u64; 2];
-
-// How far a chunk was read, and how much was printed.
-pub type Counts = [usize; 2];
 
 // Every table as it is before the first frame.
 #[no_mangle]
@@ -245,40 +241,8 @@ pub extern "C" fn chiarumbeta_lent_owner(owners: &Owners, page: u64) -> u64
 
 // One of the nine numbers that are saved for a core and world.
 #[no_mangle]
-pub extern "C" fn chiarumbeta_lent_number(t: &Saved, core: u64, world: u64, i: u64) -> u64
-    ensures { λ r. ⌜ r ≡ saved (now (t .entry)) core world i ⌝ }
+pub extern "C" fn chiarumbeta_lent_number(saved: &Saved, core: u64, world: u64, i: u64) -> u64
+    ensures { λ r. ⌜ r ≡ numberSaved (now (saved .entry)) core world i ⌝ }
 {
-    registers::number(t, core, world, i)
-}
-
-// The bytes of a run: each complete line of the chunk is answered.
-#[no_mangle]
-pub extern "C" fn chiarumbeta_lent_feed(
-    chunk: &[u8],
-    out: &mut [u8],
-    counts: &mut Counts,
-    setup: &mut Setup,
-    named: &mut Named,
-    book: &mut Ledger,
-    owners: &mut Owners,
-    saved: &mut Saved,
-    powers: &mut Powers,
-    turns: &mut Turns,
-    lists: &mut Lists,
-)
-    ensures { λ _. ⌜ ((machine (now (setup .exit)) (now (named .exit)) (now (book .exit)) (now (owners .exit)) (now (saved .exit)) (now (powers .exit)) (now (turns .exit)) (now (lists .exit)), now (out .exit)), now (counts .exit)) ≡ fedInto (fed (now (chunk .entry)) (stand (machine (now (setup .entry)) (now (named .entry)) (now (book .entry)) (now (owners .entry)) (now (saved .entry)) (now (powers .entry)) (now (turns .entry)) (now (lists .entry))) 0 0 (now (out .entry)))) ⌝ }
-{
-    let fed = stream::feed(
-        chunk,
-        out,
-        setup,
-        named,
-        book,
-        owners,
-        saved,
-        powers,
-        turns,
-        lists,
-    );
-    *counts = [fed.used, fed.put];
+    registers::number(saved, core, world, i)
 }

@@ -1,8 +1,8 @@
 -- The feed is the one below, with both counts in one table.
 use borrow.Author.Needs.{needs}
-use Rattle.firmware.specs.Laws.{feeds}
-use Rattle.firmware.proofs.chiarumbeta_lent_feed.Statement.{statement}
-use Rattle.firmware.proofs.chiarumbeta_lent_feed.Tie as tie
+use Rattle.firmware_feed.specs.Feed.{feeds}
+use Rattle.firmware_feed.proofs.chiarumbeta_lent_feed.Statement.{statement}
+use Rattle.firmware_feed.proofs.chiarumbeta_lent_feed.Tie as tie
 
 feed-requires : tie.Need-feed-requires
 feed-requires c κs = search needs
