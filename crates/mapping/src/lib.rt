@@ -8,7 +8,6 @@ use pages::Window;
 pub use places::Lists;
 pub use places::fresh;
 pub use ranges::Mapping;
-use ranges::Question;
 use rules::MOST_MAPPINGS;
 use rules::PAGE_SIZE;
 use rules::Reason;
@@ -53,10 +52,10 @@ pub fn judge_map(lists: &Lists, owners: &Owners, w: Window, world: u64, m: Mappi
     if m.is_beyond(w) {
         return Verdict::No(Reason::Beyond);
     }
-    if MOST_MAPPINGS <= places::find(lists, world, Question::Free) {
+    if MOST_MAPPINGS <= places::find_free(lists, world) {
         return Verdict::No(Reason::Full);
     }
-    if places::find(lists, world, Question::Clashes(m)) < MOST_MAPPINGS {
+    if places::find_clashing(lists, world, m) < MOST_MAPPINGS {
         return Verdict::No(Reason::Overlap);
     }
     if is_owned(owners, w, world, m) {
@@ -69,7 +68,7 @@ pub fn judge_map(lists: &Lists, owners: &Owners, w: Window, world: u64, m: Mappi
 pub fn hold(lists: &mut Lists, world: u64, m: Mapping)
     ensures { λ r. ⌜ now (lists .exit) ≡ holding (now (lists .entry)) world m ⌝ }
 {
-    let i = places::find(lists, world, Question::Free);
+    let i = places::find_free(lists, world);
     places::store(lists, world, i, m);
 }
 
@@ -77,14 +76,14 @@ pub fn hold(lists: &mut Lists, world: u64, m: Mapping)
 pub fn has(lists: &Lists, world: u64, virt: u64, size: u64) -> bool
     ensures { λ r. ⌜ r ≡ hasExactly (held (now (lists .entry)) world) virt size ⌝ }
 {
-    places::find(lists, world, Question::Exact { virt, size }) < MOST_MAPPINGS
+    places::find_exact(lists, world, virt, size) < MOST_MAPPINGS
 }
 
 // Frees the world's lowest place with exactly this start and size. Where there is none, nothing changes.
 pub fn release(lists: &mut Lists, world: u64, virt: u64, size: u64)
     ensures { λ r. ⌜ now (lists .exit) ≡ released (now (lists .entry)) world virt size ⌝ }
 {
-    let i = places::find(lists, world, Question::Exact { virt, size });
+    let i = places::find_exact(lists, world, virt, size);
     places::store(lists, world, i, places::blank());
 }
 
@@ -97,14 +96,14 @@ pub fn meets_run(lists: &Lists, world: u64, start: u64, count: u64) -> bool
         let size = count * PAGE_SIZE;
         return places::find_range(lists, world, start, size) < MOST_MAPPINGS;
     }
-    places::find(lists, world, Question::OnPages { start, count }) < MOST_MAPPINGS
+    places::find_on_pages(lists, world, start, count) < MOST_MAPPINGS
 }
 
 // Where the address leads, by the mapping that decides it. In a table that a run leaves, the sum does not wrap.
 pub fn lead_of(lists: &Lists, world: u64, address: u64) -> Lead
     ensures { λ r. ⌜ r ≡ leadOf (held (now (lists .entry)) world) address ⌝ }
 {
-    let i = places::find(lists, world, Question::Holds(address));
+    let i = places::find_holding(lists, world, address);
     if MOST_MAPPINGS <= i {
         return Lead::Nowhere;
     }

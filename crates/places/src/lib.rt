@@ -1,7 +1,7 @@
 // Each world's sixteen places, free or held, in one table that the caller lends. Where there is no such world or place, reading
 // gives a free one and writing changes nothing.
 ghost use mathlib.Core.Path.{_≡_};
-ghost use Rattle.ranges.specs.declared.Question.the-variants.{OnRange};
+ghost use Rattle.ranges.specs.declared.Question.the-variants.{Free, Exact, OnPages, OnRange, Holds, Clashes};
 ghost use Rattle.places.specs.Table.{blank, unmapped, place, stored};
 ghost use Rattle.places.specs.Found.{found};
 use ranges::Mapping;
@@ -67,13 +67,16 @@ pub fn store(lists: &mut Lists, world: u64, i: u64, m: Mapping)
     lists[at + 3] = m.attr;
 }
 
-// The lowest place of the world that answers the question, or 16.
-pub fn find(lists: &Lists, world: u64, q: Question) -> u64
-    ensures { λ r. ⌜ r ≡ found (now (lists .entry)) world q ⌝ }
+// The searches: the lowest place of the world that answers, or 16. Each question has a loop of its own, in which it is known: a loop
+// that is handed its question asks at each place which one it is.
+
+// The lowest place that is free.
+pub fn find_free(lists: &Lists, world: u64) -> u64
+    ensures { λ r. ⌜ r ≡ found (now (lists .entry)) world Free ⌝ }
 {
     let mut i = 0;
     while i < MOST_MAPPINGS {
-        if place_of(lists, world, i).answers(q) {
+        if place_of(lists, world, i).answers(Question::Free) {
             return i;
         }
         i += 1;
@@ -81,13 +84,69 @@ pub fn find(lists: &Lists, world: u64, q: Question) -> u64
     i
 }
 
-// The same for a physical range: every transfer that gets so far asks for it, so it has a loop in which the question is known.
+// The lowest place that is held with exactly this start and size.
+pub fn find_exact(lists: &Lists, world: u64, virt: u64, size: u64) -> u64
+    ensures { λ r. ⌜ r ≡ found (now (lists .entry)) world (Exact virt size) ⌝ }
+{
+    let mut i = 0;
+    while i < MOST_MAPPINGS {
+        if place_of(lists, world, i).answers(Question::Exact { virt, size }) {
+            return i;
+        }
+        i += 1;
+    }
+    i
+}
+
+// The lowest place that is held with this virtual address in it.
+pub fn find_holding(lists: &Lists, world: u64, address: u64) -> u64
+    ensures { λ r. ⌜ r ≡ found (now (lists .entry)) world (Holds address) ⌝ }
+{
+    let mut i = 0;
+    while i < MOST_MAPPINGS {
+        if place_of(lists, world, i).answers(Question::Holds(address)) {
+            return i;
+        }
+        i += 1;
+    }
+    i
+}
+
+// The lowest place that is held and meets this mapping.
+pub fn find_clashing(lists: &Lists, world: u64, m: Mapping) -> u64
+    ensures { λ r. ⌜ r ≡ found (now (lists .entry)) world (Clashes m) ⌝ }
+{
+    let mut i = 0;
+    while i < MOST_MAPPINGS {
+        if place_of(lists, world, i).answers(Question::Clashes(m)) {
+            return i;
+        }
+        i += 1;
+    }
+    i
+}
+
+// The lowest place that is held, with a physical range that meets this one.
 pub fn find_range(lists: &Lists, world: u64, start: u64, size: u64) -> u64
     ensures { λ r. ⌜ r ≡ found (now (lists .entry)) world (OnRange start size) ⌝ }
 {
     let mut i = 0;
     while i < MOST_MAPPINGS {
         if place_of(lists, world, i).answers(Question::OnRange { start, size }) {
+            return i;
+        }
+        i += 1;
+    }
+    i
+}
+
+// The lowest place that is held, with a physical range that meets this run of pages.
+pub fn find_on_pages(lists: &Lists, world: u64, start: u64, count: u64) -> u64
+    ensures { λ r. ⌜ r ≡ found (now (lists .entry)) world (OnPages start count) ⌝ }
+{
+    let mut i = 0;
+    while i < MOST_MAPPINGS {
+        if place_of(lists, world, i).answers(Question::OnPages { start, count }) {
             return i;
         }
         i += 1;

@@ -1,4 +1,4 @@
--- `find_range` meets its promise as `find` does.
+-- No place that the loop has passed answers.
 use Prim.Native.Nat.{_-_}
 use Rattle.places.specs.Table.{places}
 use Rattle.places.specs.Found.{Searching, searching}

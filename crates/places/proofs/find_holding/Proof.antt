@@ -1,16 +1,17 @@
--- `find` meets its promise, since no place that the loop has passed answers.
+-- No place that the loop has passed answers.
 use Prim.Native.Nat.{_-_}
 use Rattle.places.specs.Table.{places}
 use Rattle.places.specs.Found.{Searching, searching}
+use Rattle.ranges.specs.declared.Question.the-variants.{Holds}
 use borrow.Author.Needs.{needs}
-use Rattle.places.proofs.find.Statement.{statement}
-use Rattle.places.proofs.find.Tie as tie
+use Rattle.places.proofs.find_holding.Statement.{statement}
+use Rattle.places.proofs.find_holding.Tie as tie
 
 abbrev Inv-loop : tie.InvT-loop
-Inv-loop lists world q i₀ i = Searching lists world q i
+Inv-loop lists world address i₀ i = Searching lists world (Holds address) i
 
 abbrev μ-loop : tie.MeasureT-loop
-μ-loop lists world q i₀ i = places - i
+μ-loop lists world address i₀ i = places - i
 
 loop-holds : tie.Need-loop-holds Inv-loop μ-loop
 loop-holds c = search searching
@@ -36,8 +37,8 @@ loop-again c = search searching
 returns-2 : tie.Need-returns-2 Inv-loop μ-loop
 returns-2 c = search searching
 
-pub find-spec : {M : Type 1} → statement M
-find-spec =
+pub find-holding-spec : {M : Type 1} → statement M
+find-holding-spec =
     tie.close
     (tie.spec
     Inv-loop
