@@ -45,6 +45,19 @@ in-byte a why o n is e = rw (← is, e)
 pub refuses : (a : Answer) (r : Reason) (n : ℕ) → a ≡ No r → n ≡ minus r → n ≡ refusal a
 refuses a r n e f = rw (e, f)
 
+pub refuses-not : (a : Answer) → ((r : Reason) → a ≡ No r → ⊥) → 0 ≡ refusal a
+refuses-not Version h = refl
+refuses-not PowerVersion h = refl
+refuses-not Done h = refl
+refuses-not On h = refl
+refuses-not Off h = refl
+refuses-not Pending h = refl
+refuses-not (Owns is) h = refl
+refuses-not (Leads phys attr) h = refl
+refuses-not (Count n) h = refl
+refuses-not Silent h = refl
+refuses-not (No r) h = absurd (h r refl)
+
 module _ (told : List ℕ) (made : Made) (r q : Reply) (is : r ≡ q) where
   pub tells-nothing : (why : Status) → r ≡ Reply.Told why → told ≡ telling told made q
   tells-nothing why e = rw (← is, e)

@@ -127,19 +127,10 @@ fn results_of(a: Answer) -> u64
 fn refusal_of(a: Answer) -> u64
     ensures { λ r. ⌜ r ≡ refusal a ⌝ }
 {
-    match a {
-        Answer::Version => 0,
-        Answer::PowerVersion => 0,
-        Answer::Done => 0,
-        Answer::On => 0,
-        Answer::Off => 0,
-        Answer::Pending => 0,
-        Answer::Owns(_) => 0,
-        Answer::Leads { phys: _, attr: _ } => 0,
-        Answer::Count(_) => 0,
-        Answer::Silent => 0,
-        Answer::No(r) => rules::minus_of(r),
-    }
+    let Answer::No(r) = a else {
+        return 0;
+    };
+    rules::minus_of(r)
 }
 
 // What is told of an accepted call.
