@@ -107,8 +107,8 @@ struct chiarumbeta {
 };
 
 // What is told of an accepted call: the world that then runs, or CHIARUMBETA_NO_WORLD where the core went OFF; x0 to x3 of that
-// world, Normal's where the core went OFF; the world that called; how many results were written from x0 on, 0, 1 or 3; and n
-// where the call was refused with -n, else 0.
+// world, Normal's where the core went OFF; the world that called; and n where the call was refused with -n, else 0. Where the first
+// and the caller differ, the call was a hand-over, a finish or OFF, which write no answer.
 enum chiarumbeta_told {
     CHIARUMBETA_TOLD_WORLD,
     CHIARUMBETA_TOLD_X0,
@@ -116,7 +116,6 @@ enum chiarumbeta_told {
     CHIARUMBETA_TOLD_X2,
     CHIARUMBETA_TOLD_X3,
     CHIARUMBETA_TOLD_CALLER,
-    CHIARUMBETA_TOLD_WRITTEN,
     CHIARUMBETA_TOLD_REFUSED,
     CHIARUMBETA_TOLD,
 };
@@ -136,7 +135,7 @@ uint64_t chiarumbeta_lent_enter_pairs(const uint64_t setup[5], uint16_t book[128
                                       uint64_t kind, uint64_t handler);
 uint64_t chiarumbeta_lent_name_pages(const uint64_t setup[5], uint64_t owners[256], uint8_t named[4096],
                                      uint64_t lowest, uint64_t count, uint64_t to);
-uint64_t chiarumbeta_lent_call(uint64_t setup[5], uint64_t core, const uint64_t x[8], uint64_t told[8],
+uint64_t chiarumbeta_lent_call(uint64_t setup[5], uint64_t core, const uint64_t x[8], uint64_t told[7],
                                const uint16_t book[128], uint64_t owners[256], uint64_t saved[288], uint64_t powers[24],
                                uint64_t turns[8], uint64_t lists[256]);
 uint64_t chiarumbeta_lent_arrive(const uint64_t setup[5], uint64_t core, uint64_t saved[288], uint64_t powers[24],

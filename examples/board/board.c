@@ -33,7 +33,7 @@ static void say_status(const char *what, uint64_t status)
     printf("%s: %02" PRIx64 "\n", what, status);
 }
 
-// A call on a core, and what is told of it: who runs, x0 to x3, who called, how many results were written, and a refusal.
+// A call on a core, and what is told of it: who runs, x0 to x3, who called, and a refusal.
 static void call(const char *what, uint64_t core, uint64_t x0, uint64_t x1, uint64_t x2, uint64_t x3, uint64_t x4)
 {
     const uint64_t x[8] = {x0, x1, x2, x3, x4};
@@ -43,12 +43,11 @@ static void call(const char *what, uint64_t core, uint64_t x0, uint64_t x1, uint
         say_status(what, status);
         return;
     }
-    printf("%s: %s runs, x0 to x3 are %" PRIx64 " %" PRIx64 " %" PRIx64 " %" PRIx64 "; %s called, %" PRIu64 " written", what,
+    printf("%s: %s runs, x0 to x3 are %" PRIx64 " %" PRIx64 " %" PRIx64 " %" PRIx64 "; %s called", what,
            world(told[CHIARUMBETA_TOLD_WORLD]), told[CHIARUMBETA_TOLD_X0], told[CHIARUMBETA_TOLD_X1],
-           told[CHIARUMBETA_TOLD_X2], told[CHIARUMBETA_TOLD_X3], world(told[CHIARUMBETA_TOLD_CALLER]),
-           told[CHIARUMBETA_TOLD_WRITTEN]);
+           told[CHIARUMBETA_TOLD_X2], told[CHIARUMBETA_TOLD_X3], world(told[CHIARUMBETA_TOLD_CALLER]));
     if (told[CHIARUMBETA_TOLD_REFUSED] != 0)
-        printf(", refused with -%" PRIu64, told[CHIARUMBETA_TOLD_REFUSED]);
+        printf(" and is refused with -%" PRIu64, told[CHIARUMBETA_TOLD_REFUSED]);
     printf("\n");
 }
 

@@ -2,7 +2,6 @@
 use mathlib.Core.Path.{_≡_, refl}
 use mathlib.Core.List.{List, [], _∷_}
 use Prim.Native.Nat.{ℕ}
-use lib.ListN.{length}
 use Rattle.rules.specs.Reasons.{minus}
 use Rattle.rules.specs.declared.Reason.{Reason}
 use Rattle.rules.specs.declared.Reason.the-variants as Reason
@@ -15,10 +14,8 @@ use Rattle.mapping.specs.Lists.{unmapped}
 use Rattle.registers.specs.declared.Shown.{Shown}
 use Rattle.mapping.specs.declared.Lead.{Lead}
 use Rattle.mapping.specs.declared.Lead.the-variants as Lead
-use Rattle.identifiers.specs.declared.Parts.{Parts}
 use Rattle.judgements.specs.declared.Answer.{Answer}
 use Rattle.judgements.specs.declared.Answer.the-variants.{Version, PowerVersion, Done, On, Off, Pending, Owns, Leads, Count, Silent, No}
-use Rattle.answers.specs.Answers.{written}
 use Rattle.calls.specs.Step.{State}
 use Rattle.calls.specs.declared.Made.{Made}
 use Rattle.parsing.specs.Frame.{statusByte}
@@ -30,7 +27,7 @@ use Rattle.calling.specs.declared.Tried.{Tried}
 use Rattle.calling.specs.declared.Tried.the-variants as Tried
 use Rattle.setup.specs.Table.{unset}
 use Rattle.frames.specs.Frames.{machine, first}
-use Rattle.firmware.specs.Numbers.{inByte, results, refusal, telling, callTold, ledTo}
+use Rattle.firmware.specs.Numbers.{inByte, refusal, telling, callTold, ledTo}
 
 -- ---- fresh tables
 pub all-fresh : (s n l o v p t k : List ℕ) → s ≡ unset → n ≡ unnamed → l ≡ empty → o ≡ unowned → v ≡ zeros → p ≡ firstPowers → t ≡ firstTurns → k ≡ unmapped
@@ -62,9 +59,9 @@ module _ (told : List ℕ) (made : Made) (r q : Reply) (is : r ≡ q) where
   pub tells-nothing : (why : Status) → r ≡ Reply.Told why → told ≡ telling told made q
   tells-nothing why e = rw (← is, e)
 
-  pub tells : (core world : ℕ) (x : Shown) (n m : ℕ) → r ≡ Reply.Called core world x → n ≡ results (made .answer) → m ≡ refusal (made .answer)
-      → (world ∷ x .x0 ∷ x .x1 ∷ x .x2 ∷ x .x3 ∷ made .caller ∷ n ∷ m ∷ []) ≡ telling told made q
-  tells core world x n m e f g = rw (← is, e, f, g)
+  pub tells : (core world : ℕ) (x : Shown) (n : ℕ) → r ≡ Reply.Called core world x → n ≡ refusal (made .answer)
+      → (world ∷ x .x0 ∷ x .x1 ∷ x .x2 ∷ x .x3 ∷ made .caller ∷ n ∷ []) ≡ telling told made q
+  tells core world x n e f = rw (← is, e, f)
 
 pub ruleset tellings = (tells-nothing, tells)
 
@@ -89,18 +86,3 @@ module _ (l : List ℕ) (a b : Lead) (is : a ≡ b) where
   leads-nowhere n e f = rw (← is, e, f)
 
 pub ruleset leadings = (leads-to, leads-nowhere)
-
--- ---- what the numbers mean
--- as many results as the answer writes
-pub results-written : (p : Parts) (a : Answer) → results a ≡ length (written p a)
-results-written p Version = refl
-results-written p PowerVersion = refl
-results-written p Done = refl
-results-written p On = refl
-results-written p Off = refl
-results-written p Pending = refl
-results-written p (Owns is) = refl
-results-written p (Leads phys attr) = refl
-results-written p (Count n) = refl
-results-written p Silent = refl
-results-written p (No r) = refl

@@ -23,20 +23,6 @@ abbrev pub inByte : {A : Type 0} → A × Status → A × ℕ
 inByte o = (o .0, statusByte (o .1))
 
 -- ---- a call
--- how many numbers an answer writes for its caller, from x0 on
-abbrev pub results : Answer → ℕ
-results Version = 1
-results PowerVersion = 1
-results Done = 1
-results On = 1
-results Off = 1
-results Pending = 1
-results (Owns is) = 1
-results (Leads phys attr) = 3
-results (Count n) = 1
-results Silent = 0
-results (No r) = 1
-
 -- n where a call is refused with -n, else 0
 abbrev pub refusal : Answer → ℕ
 refusal Version = 0
@@ -51,11 +37,11 @@ refusal (Count n) = 0
 refusal Silent = 0
 refusal (No r) = minus r
 
--- the eight numbers that are told of a call: the world that now runs, 255 where the core is not ON; x0 to x3 as a frame shows
--- them; who called; how many results were written; the refusal
+-- the seven numbers that are told of a call: the world that now runs, 255 where the core is not ON; x0 to x3 as a frame shows
+-- them; who called; the refusal
 abbrev pub toldOf : Made → ℕ → Shown → List ℕ
 toldOf made world x =
-    world ∷ x .x0 ∷ x .x1 ∷ x .x2 ∷ x .x3 ∷ made .caller ∷ results (made .answer) ∷ refusal (made .answer) ∷ []
+    world ∷ x .x0 ∷ x .x1 ∷ x .x2 ∷ x .x3 ∷ made .caller ∷ refusal (made .answer) ∷ []
 
 -- where they were told; what is shown of a core is never a status (`shown-told` in Laws)
 abbrev pub telling : List ℕ → Made → Reply → List ℕ

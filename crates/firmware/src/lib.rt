@@ -11,7 +11,7 @@ ghost use Rattle.calling.specs.Calling.{siteOf, shownIn};
 ghost use Rattle.arriving.specs.Arriving.{arriving};
 ghost use Rattle.frames.specs.Frames.{machine, first};
 ghost use Rattle.showing.specs.Showing.{shownOn};
-ghost use Rattle.firmware.specs.Numbers.{inByte, results, refusal, telling, callTold, ledTo};
+ghost use Rattle.firmware.specs.Numbers.{inByte, refusal, telling, callTold, ledTo};
 use calling::Tried;
 use calls::Made;
 use cores::Powers;
@@ -27,8 +27,8 @@ use rules::Reason;
 use setup::Setup;
 use showing::Reply;
 
-// What is told of a call: the world that then runs or 255, x0 to x3, who called, how many results were written, the refusal.
-pub type Told = [u64; 8];
+// What is told of a call: the world that then runs or 255, x0 to x3, who called, and the refusal.
+pub type Told = [u64; 7];
 
 // Where an address leads: physical address and attributes.
 pub type Leading = [u64; 2];
@@ -104,25 +104,6 @@ pub extern "C" fn chiarumbeta_lent_name_pages(
     parsing::byte_of(status)
 }
 
-// How many numbers an answer writes for its caller.
-fn results_of(a: Answer) -> u64
-    ensures { λ r. ⌜ r ≡ results a ⌝ }
-{
-    match a {
-        Answer::Version => 1,
-        Answer::PowerVersion => 1,
-        Answer::Done => 1,
-        Answer::On => 1,
-        Answer::Off => 1,
-        Answer::Pending => 1,
-        Answer::Owns(_) => 1,
-        Answer::Leads { phys: _, attr: _ } => 3,
-        Answer::Count(_) => 1,
-        Answer::Silent => 0,
-        Answer::No(_) => 1,
-    }
-}
-
 // n where a call is refused with -n, else 0.
 fn refusal_of(a: Answer) -> u64
     ensures { λ r. ⌜ r ≡ refusal a ⌝ }
@@ -147,7 +128,6 @@ fn tell(told: &mut Told, made: Made, core: u64, saved: &Saved, powers: &Powers, 
         return;
     };
     let answer = made.answer;
-    let written = results_of(answer);
     let refused = refusal_of(answer);
     *told = [
         world,
@@ -156,7 +136,6 @@ fn tell(told: &mut Told, made: Made, core: u64, saved: &Saved, powers: &Powers, 
         shown.x2,
         shown.x3,
         made.caller,
-        written,
         refused,
     ];
 }

@@ -1,4 +1,4 @@
--- What is shown of a core is never a status, so the eight numbers are written.
+-- What is shown of a core is never a status, so the seven numbers are written.
 use borrow.Author.Needs.{needs}
 use Rattle.firmware.specs.Laws.{tellings}
 use Rattle.firmware.proofs.tell.Statement.{statement}
@@ -16,9 +16,6 @@ enum-told c = search needs
 returns : tie.Need-returns
 returns c = search tellings
 
-results-of-requires : tie.Need-results-of-requires
-results-of-requires c κs = search needs
-
 refusal-of-requires : tie.Need-refusal-of-requires
 refusal-of-requires c κs = search needs
 
@@ -33,6 +30,5 @@ tell-spec =
     enum-known-reply
     enum-told
     returns
-    results-of-requires
     refusal-of-requires
     returns-2)
