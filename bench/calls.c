@@ -1,13 +1,15 @@
 // calls ROUNDS: times each kind of call through the library and in plain C, and prints the nanoseconds of one call of each and
 // their ratio. The two take turns, and the best of the rounds counts.
 
+#define _POSIX_C_SOURCE 200809L
+
 #include <float.h>
 #include <stdio.h>
 #include <stdlib.h>
 #include <string.h>
 #include <time.h>
 
-#include "../include/chiarumbeta.h"
+#include "chiarumbeta.h"
 #include "plain.h"
 
 enum { PAGES = 4096, PAGE = 4096, HELD = 15, CORE = 0 };
