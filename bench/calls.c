@@ -1,5 +1,5 @@
-// calls ROUNDS: times each kind of call through the library and in plain C, and prints the nanoseconds of one call of each and
-// their ratio. The two take turns, and the best of the rounds counts.
+// calls ROUNDS: times each kind of call through the library and in plain C, and prints the nanoseconds of one call of each. The two
+// take turns, and the best of the rounds counts. PADDING moves the code, so that several builds of this can be compared.
 
 #define _POSIX_C_SOURCE 200809L
 
@@ -11,6 +11,12 @@
 
 #include "chiarumbeta.h"
 #include "plain.h"
+
+#ifdef PADDING
+#define TEXT_OF(number) #number
+#define TEXT(number) TEXT_OF(number)
+__asm__(".text\n.skip " TEXT(PADDING) "\n");
+#endif
 
 enum { PAGES = 4096, PAGE = 4096, HELD = 15, CORE = 0 };
 
@@ -105,12 +111,6 @@ static double plain(const struct kind *k)
 }
 
 static unsigned rounds;
-static double sum_ours, sum_plain;
-
-static void row(const char *name, double a, double b)
-{
-    printf("%-34s %10.1f %10.1f %7.2f\n", name, a, b, a / b);
-}
 
 static double smaller(double a, double b)
 {
@@ -126,9 +126,7 @@ static void measure(struct kind k)
         a = smaller(a, ours(&k));
         b = smaller(b, plain(&k));
     }
-    row(k.name, a, b);
-    sum_ours += a;
-    sum_plain += b;
+    printf("%s|%.1f|%.1f\n", k.name, a, b);
 }
 
 static void one(struct call c)
@@ -154,17 +152,14 @@ static void measure_all(void)
     measure((struct kind){"transfer of 1 page", 2, MANY, {{{CHIARUMBETA_CALL_TAKE_PAGES, BASE + 100 * PAGE, 1}}, {{CHIARUMBETA_CALL_GIVE_PAGES, BASE + 100 * PAGE, 1}}}});
     one(finish);
     measure((struct kind){"hand-over and finish", 2, MANY, {hand_over, finish}});
-    row("all of these together", sum_ours, sum_plain);
     one(hand_over);
     measure((struct kind){"transfer of 4,096 pages", 2, FEW, {{{CHIARUMBETA_CALL_TAKE_PAGES, BASE, PAGES}}, {{CHIARUMBETA_CALL_GIVE_PAGES, BASE, PAGES}}}});
-    row("all together", sum_ours, sum_plain);
 }
 
 int main(int count, char **words)
 {
     rounds = count > 1 ? (unsigned)atoi(words[1]) : 9;
     set_up();
-    printf("%-34s %10s %10s %7s\n", "nanoseconds a call", "library", "plain C", "ratio");
     measure_all();
     return 0;
 }

@@ -2,12 +2,19 @@
 ghost use mathlib.Core.Path.{_≡_};
 ghost use Rattle.registers.specs.Registers.{saving};
 ghost use Rattle.rules.specs.Reasons.{minus};
-ghost use Rattle.answers.specs.Answers.{negative, bit, written, answeredBy};
+ghost use Rattle.answers.specs.Answers.{negative, bit, written};
 use identifiers::Parts;
 use judgements::Answer;
 use registers::Saved;
 use rules::Reason;
 use rules::minus_of;
+
+// The frame's eight numbers. They are saved before the call is judged: then each judgement is next to what is written and done for it.
+pub fn save_numbers(t: &mut Saved, core: u64, world: u64, x: &[u64; 8])
+    ensures { λ _. ⌜ now (t .exit) ≡ saving (now (t .entry)) core world (now (x .entry)) ⌝ }
+{
+    registers::save(t, core, world, x);
+}
 
 // A refusal as a call of these parts has it written.
 fn negative_of(p: Parts, r: Reason) -> u64
@@ -27,7 +34,7 @@ fn bit_of(is: bool) -> u64
 }
 
 // Writes the results that an answer lists, from x0 on; the others keep the caller's values.
-fn write_answer(t: &mut Saved, core: u64, world: u64, p: Parts, a: Answer)
+pub fn write_answer(t: &mut Saved, core: u64, world: u64, p: Parts, a: Answer)
     ensures { λ _. ⌜ now (t .exit) ≡ saving (now (t .entry)) core world (written p a) ⌝ }
 {
     match a {
@@ -43,12 +50,4 @@ fn write_answer(t: &mut Saved, core: u64, world: u64, p: Parts, a: Answer)
         Answer::Silent => {}
         Answer::No(r) => registers::save_one(t, core, world, negative_of(p, r)),
     }
-}
-
-// The frame's eight numbers, and over them the answer.
-pub fn answer_call(t: &mut Saved, core: u64, world: u64, p: Parts, x: &[u64; 8], a: Answer)
-    ensures { λ _. ⌜ now (t .exit) ≡ answeredBy p (now (t .entry)) core world (now (x .entry)) a ⌝ }
-{
-    registers::save(t, core, world, x);
-    write_answer(t, core, world, p, a);
 }

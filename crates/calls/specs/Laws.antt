@@ -18,21 +18,24 @@ use Rattle.judging.specs.Laws.{requestOf}
 use Rattle.judgements.specs.declared.Judged.{Judged}
 use Rattle.judgements.specs.declared.Request.{Request}
 use Rattle.judgements.specs.declared.Caller.{Caller}
-use Rattle.answers.specs.Answers.{answeredBy}
+use Rattle.answers.specs.Answers.{written}
+use Rattle.answers.specs.Laws.{answered}
 use Rattle.deeds.specs.Deeds.{Tables, tables, carriedOut}
 use Rattle.calls.specs.Step.{state, callerOn, withTables, applied, called, coreTables, startNumbers, arrivedIn}
 use Rattle.calls.specs.declared.Site.{Site}
 
 -- ---- the whole call, from what each part ensures
-pub stepped : (w : Site) (l o r p t m xs : List ℕ) (core : ℕ) (v : Caller) (k : Request) (j : Judged) (q o′ r′ p′ t′ m′ : List ℕ)
+pub stepped : (w : Site) (l o r p t m xs : List ℕ) (core : ℕ) (v : Caller) (k : Request) (j : Judged) (n q o′ r′ p′ t′ m′ : List ℕ)
     → v ≡ callerOn w t core
+    → n ≡ saving r core (v .world) xs
     → k ≡ requestOf xs
     → j ≡ judgedBy (sighted l (handlerSight v p o (held m (v .world)) (held m normal))) (k .parts) (k .args) (k .key)
-    → q ≡ answeredBy (k .parts) r core (v .world) xs (j .answer)
+    → q ≡ saving n core (v .world) (written (k .parts) (j .answer))
     → tables o′ r′ p′ t′ m′ ≡ carriedOut (j .deed) core (v .world) xs (tables o q p t m)
     → (state w l o′ r′ p′ t′ m′, record { caller = v .world; answer = j .answer }) ≡ called (state w l o r p t m) core xs
 unfolding called applied judged
-stepped w l o r p t m xs core v k j q o′ r′ p′ t′ m′ ev ek ej eq es =
+stepped w l o r p t m xs core v k j n q o′ r′ p′ t′ m′ ev en ek ej ew es =
+    let eq = answered r n q xs core (v .world) (k .parts) (j .answer) en ew in
     ap (λ (y : Tables). (withTables (state w l o r p t m) y, record { caller = v .world; answer = j .answer })) es ∙ rw (eq, ej, ek, ev)
 
 -- ---- an arrival, from what each part ensures
