@@ -1,30 +1,27 @@
 -- A function for C does what its frame does: the machine is the one after the frame, and the number is that of the frame's answer. So what
 -- holds of any run of frames holds of any run of these calls, from fresh tables on.
-use mathlib.Core.Path.{_≡_, refl, sym, ap, _∙_}
-use mathlib.Core.Bool.{Bool, true, false}
+use mathlib.Core.Path.{_≡_, refl, ap, _∙_}
 use mathlib.Core.List.{List, [], _∷_}
 use Prim.Native.Nat.{ℕ}
-use lib.ListN.{take}
+use lib.ListN.{take, drop}
 use Rattle.rules.specs.Choice.{chosen}
 use Rattle.cores.specs.Power.{isOn}
 use Rattle.cores.specs.Cores.{power}
-use Rattle.registers.specs.declared.Shown.{Shown}
 use Rattle.calls.specs.Step.{State, state, CoreTables, coreTables}
 use Rattle.calls.specs.declared.Site.{Site}
 use Rattle.calls.specs.declared.Made.{Made}
 use Rattle.parsing.specs.Frame.{statusByte}
-use Rattle.parsing.specs.declared.Status.{Status}
 use Rattle.parsing.specs.declared.Frame.the-variants as Frame
 use Rattle.setup.specs.Frames.{sited, entering, namingIn}
 use Rattle.showing.specs.Showing.{shownOn}
 use Rattle.showing.specs.declared.Reply.{Reply}
 use Rattle.showing.specs.declared.Reply.the-variants as Reply
-use Rattle.calling.specs.Calling.{siteOf, trying, replied, calling}
+use Rattle.calling.specs.Calling.{siteOf, trying, shownIn, replied, calling}
 use Rattle.calling.specs.declared.Tried.{Tried}
 use Rattle.calling.specs.declared.Tried.the-variants as Tried
 use Rattle.arriving.specs.Arriving.{arriving}
 use Rattle.frames.specs.Frames.{Machine, machine, framed}
-use Rattle.firmware.specs.Numbers.{inByte, telling, answering, callTold}
+use Rattle.firmware.specs.Numbers.{inByte, refusal, telling, answering, callTold}
 
 -- the number of a frame's answer: its status, 0 where the call was accepted
 abbrev pub number : Reply → ℕ
@@ -70,6 +67,12 @@ by-tried told core (o, Tried.Called made) =
     chosen (λ (r : Reply). (_≡_ {A = (List ℕ × State) × ℕ} (o, 0) (o, number r)) × Shows r told (telling told made r)) (isOn (power (o .1 .powers) core)) _ _ (λ e. (refl, refl))
     (λ e. (refl, refl))
 
+last-two : (told : List ℕ) (core : ℕ) (w : State) (made : Made) → drop 5 (telling told made (shownIn core w)) ≡ (made .caller ∷ refusal (made .answer) ∷ [])
+unfolding shownOn
+last-two told core w made =
+    chosen (λ (r : Reply). drop 5 (telling told made r) ≡ (made .caller ∷ refusal (made .answer) ∷ [])) (isOn (power (w .powers) core)) _ _ (λ e. refl)
+    (λ e. refl)
+
 module _ (s m l o v p t k xs told : List ℕ) (core n : ℕ) (s′ l′ o′ v′ p′ t′ k′ told′ : List ℕ) (w : Site)
     (h : (((s′, state w l′ o′ v′ p′ t′ k′), told′), n) ≡ callTold s (state (siteOf s) l o v p t k) told core xs) where
   pub call-frame : (machine s′ m l′ o′ v′ p′ t′ k′, n) ≡ numbered (framed (machine s m l o v p t k) (Frame.Call core) xs)
@@ -84,3 +87,12 @@ module _ (s m l o v p t k xs told : List ℕ) (core n : ℕ) (s′ l′ o′ v�
   call-shows =
       let z = by-tried told core (trying s (state (siteOf s) l o v p t k) core xs) .1 in
       rw (ap (λ (y : ((List ℕ × State) × List ℕ) × ℕ). y .0 .1) h) z
+
+  -- the other two are who called and the refusal of what was answered
+  pub call-tells : (after : List ℕ × State) (made : Made) → trying s (state (siteOf s) l o v p t k) core xs ≡ (after, Tried.Called made)
+      → drop 5 told′ ≡ (made .caller ∷ refusal (made .answer) ∷ [])
+  unfolding callTold
+  call-tells after made e =
+      let a = ap (λ (y : ((List ℕ × State) × List ℕ) × ℕ). drop 5 (y .0 .1)) h in
+      let b = ap (λ (y : (List ℕ × State) × Tried). drop 5 (answering told core y .0 .1)) e in
+      a ∙ b ∙ last-two told core (after .1) made

@@ -43,7 +43,7 @@ abbrev pub toldOf : Made → ℕ → Shown → List ℕ
 toldOf made world x =
     world ∷ x .x0 ∷ x .x1 ∷ x .x2 ∷ x .x3 ∷ made .caller ∷ refusal (made .answer) ∷ []
 
--- where they were told; what is shown of a core is never a status (`shown-told` in Laws)
+-- what C has then been told; what is shown of a core is never a status, as `shownOn` says
 abbrev pub telling : List ℕ → Made → Reply → List ℕ
 telling told made (Reply.Told why) = told
 telling told made (Reply.Called core world x) = toldOf made world x

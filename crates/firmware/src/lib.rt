@@ -7,7 +7,7 @@ ghost use Rattle.mapping.specs.Lists.{held};
 ghost use Rattle.mapping.specs.Mapping.{leadOf};
 ghost use Rattle.calls.specs.Step.{state, coreTables};
 ghost use Rattle.setup.specs.Frames.{sited, entering, namingIn};
-ghost use Rattle.calling.specs.Calling.{siteOf, shownIn};
+ghost use Rattle.calling.specs.Calling.{siteOf};
 ghost use Rattle.arriving.specs.Arriving.{arriving};
 ghost use Rattle.frames.specs.Frames.{machine, first};
 ghost use Rattle.showing.specs.Showing.{shownOn};

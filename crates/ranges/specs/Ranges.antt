@@ -33,6 +33,11 @@ module _ (x a : ℕ) where
       either (ltb ((x - a) / pageSize) n) (λ y. y ∙ sym (lt-ltb (x - a) (n * pageSize) (omega (arith, ltb-true))) ∙ within-after (n * pageSize) h)
       (λ m. m ∙ sym (le-ltb (x - a) (n * pageSize) (omega (arith, ltb-false))) ∙ within-after (n * pageSize) h)
 
+-- of two ranges, that which starts first decides
+pub meets-later : (a s b u : ℕ) (r : Bool) → b < a → r ≡ within a b u → r ≡ meet a s b u
+unfolding meet
+meets-later a s b u r h e = e ∙ rw (← within-before b a s h)
+
 -- an end past a limit
 module _ (limit a s : ℕ) where
   pub end-past : limit < s → true ≡ ltb limit (a + s)

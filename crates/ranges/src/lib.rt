@@ -56,10 +56,14 @@ fn is_on_pages(x: u64, start: u64, count: u64) -> bool
     (x - start) / PAGE_SIZE < count
 }
 
-// Whether the s numbers from a on and the u numbers from b on meet.
+// Whether the s numbers from a on and the u numbers from b on meet. The first test is for speed: of two ranges, that which starts
+// first decides.
 fn do_meet(a: u64, s: u64, b: u64, u: u64) -> bool
     ensures { λ r. ⌜ r ≡ meet a s b u ⌝ }
 {
+    if b < a {
+        return is_within(a, b, u);
+    }
     if is_within(b, a, s) {
         return true;
     }
