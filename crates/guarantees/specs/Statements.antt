@@ -31,6 +31,7 @@ use Rattle.rules.specs.Sizes.{normal}
 use Rattle.judgements.specs.Judge.{calledBy, argsOf, found}
 use Rattle.judgements.specs.Grounds.{Calls, Takes}
 use Rattle.judgements.specs.Hint.{Known}
+use Rattle.judgements.specs.Refused.{Unknown, Barred}
 use Rattle.judgements.specs.declared.Answer.the-variants.{No}
 use Rattle.rules.specs.Reasons.{minus}
 use Rattle.answers.specs.Answers.{negative}
@@ -242,6 +243,9 @@ module _ (m : Machine) (core : ℕ) (xs : List ℕ) where
           → judgedIn (stateOf m) core xs ≡ found (sight (stateOf m) core .inner) (argsOf (calledBy xs) xs) (key xs) (handler (m .ledger) (calledBy xs .fast) (calledBy xs .owner))
       -- A call for whose type and owner it has none is refused with -1.
       pub unserved : handler (m .ledger) (calledBy xs .fast) (calledBy xs .owner) ≡ Nobody → last ≡ denied 1
+      -- So is one that the handler does not know, and one that is for another world than the caller's.
+      pub unknown : Reached (sight (stateOf m) core) xs (λ h. Unknown h (key xs)) → last ≡ denied 1
+      pub barred : Reached (sight (stateOf m) core) xs (λ h. Barred h (key xs) caller) → last ≡ denied 1
       -- A call that is refused for a reason leaves the machine of that refusal.
       pub refused : (r : Reason) → answerIn (stateOf m) core xs ≡ No r → last ≡ denied (minus r)
       -- That refusal stands in x0 as 2^32 - n where bit 30 of the frame's x0 is clear, and as 2^64 - n where it is set.

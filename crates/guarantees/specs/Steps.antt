@@ -23,7 +23,7 @@ use Rattle.mapping.specs.Sound.{granted-formed}
 use Rattle.rules.specs.Sizes.{secure, normal, mostCores}
 use Rattle.judgements.specs.Judge.{calledBy, argsOf, affirmed, found, wanted}
 use Rattle.judgements.specs.Asked.{Finishes, by-secure, by-realm, called-for, leads-asked, judged-reserved}
-use Rattle.judgements.specs.Decided.{asked-map, asked-unmap, asked-start, asked-off, asked-hand-over, asked-finish, asked-where, asked-count, asked-version, asked-power-version, asked-features, asked-power-features}
+use Rattle.judgements.specs.Decided.{asked-map, asked-unmap, asked-start, asked-off, asked-hand-over, asked-finish, asked-where, asked-count, asked-version, asked-power-version, asked-features, asked-power-features, asked-unknown-call, asked-barred}
 use Rattle.judgements.specs.Hint.{hint-idle, hint-width, fast-key, yielding-key, Plain, asked-known, asked-unknown}
 use Rattle.judgements.specs.Grounds.{grounded}
 use Rattle.judgements.specs.declared.Answer.{Answer}
@@ -263,6 +263,8 @@ module _ (m : Machine) (fit : Fit m) (e : Event) (core : ℕ) (is : e .0 ≡ Fra
         power-features-unknown = λ n a d. refuses Reason.Unserved (asked-power-features (sight s core) xs (may m fit e core is t) n a ∙ denies _ (asked-unknown xs powerKnown d));
         dispatched = λ ok. reaches s core xs (r .running core i .world) ok;
         unserved = λ n. refuses Reason.Unserved (nobody-answers n);
+        unknown = λ a. refuses Reason.Unserved (ap (λ (j : Judged). j .answer) (asked-unknown-call (sight s core) xs (may m fit e core is t) a));
+        barred = λ a. refuses Reason.Unserved (ap (λ (j : Judged). j .answer) (asked-barred (sight s core) xs (may m fit e core is t) a));
         refused = refuses;
         refused-short = λ n b. negative-short (calledBy xs) n (width-low xs ∙ b);
         refused-long = λ n b. negative-long (calledBy xs) n (long xs b);

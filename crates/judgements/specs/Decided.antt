@@ -26,6 +26,7 @@ use Rattle.transfers.specs.declared.Verdict.the-variants as Moving
 use Rattle.rules.specs.Sizes.{normal}
 use Rattle.judgements.specs.Names.{version, features, powerVersion, coreOff, coreStart, coreStartWide, coreState, coreStateWide, powerFeatures, granuleToRealm, granuleToNormal, realmFirst, realmLast, realmFinish, mapPages, unmapPages, whereLeads, countOn, secureFinish}
 use Rattle.judgements.specs.Judge.{HandlerSight, Sight, denied, tested, oneOf, callers, wanted, calledBy, argsOf, asked, affirmed, featuring, versioning, powerFeaturing, architecture, starting, goingOff, moving, rowIn, transferring, byNumber, byRow, mapping, unmapping, leading, board, handing, finishing, handingToRealm, realmCall, standard, trusted, byHandler, found, judged}
+use Rattle.judgements.specs.Refused.{Unknown, Barred, unknown-denied, barred-denied}
 use Rattle.judgements.specs.declared.Answer.{Answer}
 use Rattle.judgements.specs.declared.Answer.the-variants as Answer
 use Rattle.judgements.specs.declared.Deed.{Deed}
@@ -202,6 +203,13 @@ module _ (s : Sight) (xs : List ℕ) where
     found-at : {P : ℕ → Type 0} (r : Reached s xs P) → judged s xs ≡ byHandler (s .inner) args (key xs) (r .number)
     unfolding found
     found-at r = judged-found s xs may (r .passes) ∙ rw (r .reached)
+
+    -- A call that its handler does not know, or that is for another world, is refused with -1.
+    pub asked-unknown-call : Reached s xs (λ h. Unknown h (key xs)) → judged s xs ≡ denied Reason.Unserved
+    asked-unknown-call r = found-at r ∙ unknown-denied (s .inner) args (r .so)
+
+    pub asked-barred : Reached s xs (λ h. Barred h (key xs) (s .inner .caller .world)) → judged s xs ≡ denied Reason.Unserved
+    asked-barred r = found-at r ∙ barred-denied (s .inner) args (r .so) refl
 
     -- How many cores are ON is told to whoever asks.
     pub asked-count : Reached s xs (λ h. (h ≡ 1) × (key xs ≡ countOn)) → judged s xs .answer ≡ Answer.Count (onCount (s .inner .powers))

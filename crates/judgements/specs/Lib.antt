@@ -4,6 +4,7 @@ pub mod Alike
 pub mod Laws
 pub mod Grounds
 pub mod Asked
+pub mod Refused
 pub mod Decided
 pub mod Granules
 pub mod Hint
