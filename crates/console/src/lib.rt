@@ -2,7 +2,7 @@
 ghost use mathlib.Core.Path.{_≡_};
 ghost use mathlib.Core.Bool.{true};
 ghost use Rattle.frames.specs.Frames.{onMachine};
-ghost use Rattle.inputs.specs.Loop.{Ran, Left};
+ghost use Rattle.inputs.specs.Monitor.{Ran, Left};
 use cores::Powers;
 use cores::Turns;
 use ledger::Ledger;

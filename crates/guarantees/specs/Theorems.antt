@@ -22,6 +22,7 @@ use Rattle.judgements.specs.Grounds.{Takes}
 use Rattle.calls.specs.Step.{sight, judgedIn}
 use Rattle.hex.specs.Hex.{value, inHex}
 use Rattle.lines.specs.Lines.{linesOf}
+use Rattle.lines.specs.Meant.{meant}
 use Rattle.lines.specs.Input.{reading, readings}
 use Rattle.parsing.specs.declared.Frame.{Frame}
 use Rattle.parsing.specs.declared.Frame.the-variants as Frame
@@ -153,7 +154,7 @@ said (e ∷ rest) m = rw (said rest (next m e))
 
 -- What is printed for any bytes is the answers to its lines in order, one for each line.
 pub printed-answers : (m : Machine) (input : List ℕ) → (printed m input ≡ texts (replies m (readings input))) × (length (replies m (readings input)) ≡ length (linesOf input))
-unfolding printed readings
+unfolding printed meant
 printed-answers m input = (said (readings input) m, replies-count m (readings input) ∙ length-map (linesOf input) reading)
 
 -- The numbers of a line are below 2^64, those of a call are eight, and its core is below 256.

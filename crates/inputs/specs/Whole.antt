@@ -11,15 +11,17 @@ use Rattle.rules.specs.Choice.{chosen, either}
 use Rattle.tools.specs.Laid.{put, laid, put-fits, laid-append, length-laid}
 use Rattle.parsing.specs.Frame.{isCall, no-call, parsed-frame}
 use Rattle.text.specs.Text.{longest}
-use Rattle.lines.specs.Lines.{linesOf, endOf, lineAt, nextOf, Unbroken, lines-first, line-unbroken, rest-unbroken, end-from}
+use Rattle.lines.specs.Meant.{meant-none, meant-first}
+use Rattle.lines.specs.Lines.{endOf, lineAt, nextOf, Unbroken, line-unbroken, rest-unbroken, end-from}
 use Rattle.lines.specs.Input.{reading, readings, reading-of, Found, next-found, next-unfinished, next-inside}
 use Rattle.lines.specs.Parts.{complete}
 use Rattle.parsing.specs.declared.Frame.{Frame}
 use Rattle.lines.specs.declared.Next.the-variants.{Line}
 use Rattle.frames.specs.Frames.{Machine, framed}
 use Rattle.answering.specs.Answer.{textOf, numbers-idle, text-short, text-told}
-use Rattle.inputs.specs.Run.{answers, printed, reached, leftBy, left-none, printed-none}
-use Rattle.inputs.specs.Parts.{lines-printed, lines-left}
+use Rattle.inputs.specs.Folds.{left-none, left-first, lines-left}
+use Rattle.inputs.specs.Run.{answers, printed, leftBy, turned, printed-none}
+use Rattle.inputs.specs.Parts.{lines-printed}
 use Rattle.inputs.specs.Cut.{unbroken-so, line-complete, parted, line-more}
 use Rattle.inputs.specs.Fed.{Stand, stand, full, stepped, fedIn, fed, by-next}
 
@@ -36,16 +38,14 @@ pub record Answers (s : List ℕ) (m : Machine) (was : List ℕ) (d : Stand) : T
 -- ---- one line by itself
 module _ (m : Machine) (l : List ℕ) (u : Unbroken l) where
   line-read : readings (l ++ 10 ∷ []) ≡ reading l ∷ []
-  unfolding readings linesOf
-  line-read = rw (lines-first l [] u)
+  line-read = meant-first reading l [] u ∙ ap (λ (r : List (Frame × List ℕ)). reading l ∷ r) (meant-none reading)
 
   pub line-printed : printed m (l ++ 10 ∷ []) ≡ textOf (framed m (reading l .0) (reading l .1) .1)
   unfolding printed answers
   line-printed = rw line-read (append-nil (textOf (framed m (reading l .0) (reading l .1) .1)))
 
   pub line-left : leftBy m (l ++ 10 ∷ []) ≡ framed m (reading l .0) (reading l .1) .0
-  unfolding leftBy reached
-  line-left = rw line-read
+  line-left = left-first turned reading m l [] u ∙ left-none turned reading (framed m (reading l .0) (reading l .1) .0)
 
 -- a line has at least a fifth of its answer's bytes, with its newline: only a call has more than five, and a call has 132 digits
 line-few : (m : Machine) (l : List ℕ) (f : Frame) (xs ys : List ℕ) → (f, ys) ≡ Rattle.parsing.specs.Frame.parsed l xs → length (textOf (framed m f ys .1)) ≤ 5 * (length l + 1)
@@ -58,7 +58,7 @@ module _ (s : List ℕ) (m : Machine) (out : List ℕ) where
   pub answers-none : Answers s m out (stand m 0 0 out)
   unfolding complete laid
   answers-none =
-      record { lines = refl; inside = omega arith; machine = sym (left-none m); done = rw printed-none; out = rw printed-none; room = omega arith; few = omega arith }
+      record { lines = refl; inside = omega arith; machine = sym (left-none turned reading m); done = rw printed-none; out = rw printed-none; room = omega arith; few = omega arith }
 
   module _ (d : Stand) (a : Answers s m out d) (f : Frame) (after : ℕ) (xs : List ℕ) (line : (Line f after, xs) ≡ nextOf s (d .read) []) (h : longest ≤ length (d .out) - d .done) where
     found : Found s (d .read) [] f after xs
@@ -91,7 +91,7 @@ module _ (s : List ℕ) (m : Machine) (out : List ℕ) where
     leaves : leftBy m (take after s) ≡ framed (d .machine) f xs .0
     unfolding l
     leaves =
-        ap (leftBy m) bytes ∙ lines-left m (take (d .read) s) (lineAt s (d .read) ++ 10 ∷ [])
+        ap (leftBy m) bytes ∙ lines-left turned reading m (take (d .read) s) (lineAt s (d .read) ++ 10 ∷ [])
         ∙ rw (a .lines, ← a .machine, line-left (d .machine) (lineAt s (d .read)) (line-unbroken s (d .read)), read-so)
 
     size : length (d .out) ≡ length out

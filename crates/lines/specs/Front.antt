@@ -7,11 +7,11 @@ use native.Mathlib.Omega.{arith}
 use borrow.Author.Count.{below-more}
 use borrow.Author.Tests.{le-leb, lt-leb, leb-true, leb-false, ltb-true, ltb-false}
 use lib.Dec.{ltb, leb}
-use lib.ListN.{length, getD, take, drop, set, length-append, length-drop, length-set, List·getD-append}
-use lib.Seq.{getD-set-same, getD-set-other, getD-drop, getD-take, length-take-le, take-at, take-take, ext-getD, getD-append-add}
+use lib.ListN.{length, getD, take, drop, set, length-append, length-take, length-drop, length-set, List·getD-append}
+use lib.Seq.{getD-set-same, getD-set-other, getD-drop, getD-take, length-take-le, take-at, take-all, take-take, ext-getD, getD-append-add}
 use Rattle.rules.specs.Choice.{pick, pick-yes, passed, either, both-true, left-false, right-false}
 use Rattle.lines.specs.Lines.{part, Unbroken}
-use Rattle.lines.specs.Input.{readings, readings-cut}
+use Rattle.lines.specs.Meant.{meant, Blind, meant-cut}
 
 -- how many bytes of it are kept: all, or one more than a frame may have
 abbrev pub keeps : ℕ → ℕ → ℕ
@@ -94,7 +94,7 @@ module _ (s : List ℕ) (from to : ℕ) where
         let q : from + n ≤ length s = omega arith in
         rw front-is (rw (moved s s′ from n q (rw p at m), e))
 
-    -- what is kept is read as the whole was, whatever is read behind it
+    -- what is kept means what the whole did, whatever is read behind it
     module _ (s′ : List ℕ) (r : ℕ) (e : (r, s′) ≡ fronted s from to) where
       kept : r ≡ keeps from to
       kept = ap (λ (q : ℕ × List ℕ). q .0) (e ∙ front-is)
@@ -105,16 +105,21 @@ module _ (s : List ℕ) (from to : ℕ) where
       inside : from + r ≤ length s
       inside = omega (arith, kept)
 
-      pub front-readings : Unbroken (part s from to) → (more : List ℕ) → readings (take r s′ ++ more) ≡ readings (part s from to ++ more)
-      front-readings u more =
+      pub front-kept : take r s′ ≡ take 133 (part s from to)
+      front-kept =
           rw (front, take-front s from r inside)
           (either (leb (to - from) 133)
           (λ y.
           let b : to - from ≤ 133 = leb-true _ _ y in
           let a : r ≡ to - from = omega (arith, kept) in
-          rw a)
+          rw a (sym (take-all 133 (part s from to) (omega (arith, front-length s from (to - from) (omega arith))))))
           (λ y.
           let b : 133 < to - from = leb-false _ _ y in
           let a : r ≡ 133 = omega (arith, kept) in
-          let c : length (part s from to) ≡ to - from = front-length s from (to - from) (omega arith) in
-          rw (a, ← take-take 133 (to - from) (drop from s) (omega arith)) (readings-cut (part s from to) more (omega arith) u)))
+          rw a (sym (take-take 133 (to - from) (drop from s) (omega arith)))))
+
+      pub front-count : r ≡ length (take 133 (part s from to))
+      front-count = omega (arith, kept, length-take 133 (part s from to), front-length s from (to - from) (omega arith))
+
+      pub front-meant : {A : Type 0} (f : List ℕ → A) → Blind f → Unbroken (part s from to) → (more : List ℕ) → meant f (take r s′ ++ more) ≡ meant f (part s from to ++ more)
+      front-meant f blind u more = rw front-kept (meant-cut f blind (part s from to) more u)

@@ -1,6 +1,8 @@
 pub mod Quick
 pub mod Lines
+pub mod Parts
+pub mod Meant
 pub mod Input
 pub mod Front
-pub mod Parts
+pub mod Close
 pub mod Cases

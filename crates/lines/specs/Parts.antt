@@ -1,13 +1,11 @@
 -- An input cut in two: its complete lines, and the line that is not finished.
 use mathlib.Core.Path.{_≡_, refl, ap}
 use mathlib.Core.Bool.{Bool, true, false, _||_}
-use mathlib.Core.List.{List, [], _∷_, _++_, map}
+use mathlib.Core.List.{List, [], _∷_, _++_}
 use Prim.Native.Nat.{ℕ}
 use lib.Dec.{eqb}
 use Rattle.rules.specs.Choice.{pick, either, yes-or-no}
 use Rattle.lines.specs.Lines.{before, linesOf}
-use Rattle.lines.specs.Input.{reading, readings}
-use Rattle.parsing.specs.declared.Frame.{Frame}
 
 -- one of the bytes is a newline
 unfoldable pub broken : List ℕ → Bool
@@ -61,12 +59,3 @@ lines-parts (b ∷ bs) s =
     held : (bs s : List ℕ) (b : ℕ) → broken bs ≡ true → before b (linesOf (complete bs) ++ linesOf s) ≡ before b (linesOf (complete bs)) ++ linesOf s
     held [] s b y = absurd (yes-or-no (broken []) y refl)
     held (c ∷ cs) s b y = rw y (some-line c (complete cs) (linesOf s) b)
-
--- ---- and so is what is read
-map-append : (ls ms : List (List ℕ)) → map reading (ls ++ ms) ≡ map reading ls ++ map reading ms
-map-append [] ms = refl
-map-append (l ∷ ls) ms = ap (λ (r : List (Frame × List ℕ)). reading l ∷ r) (map-append ls ms)
-
-pub readings-parts : (a s : List ℕ) → readings (complete a ++ s) ≡ readings (complete a) ++ readings s
-unfolding readings
-readings-parts a s = rw (lines-parts a s) (map-append (linesOf (complete a)) (linesOf s))

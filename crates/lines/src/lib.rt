@@ -11,6 +11,7 @@ ghost use Rattle.lines.specs.Quick.{Looked};
 ghost use Rattle.hex.specs.Hex.{allDigits};
 ghost use Rattle.lines.specs.Lines.{endOf, part, nextOf};
 ghost use Rattle.lines.specs.Front.{fronted};
+ghost use Rattle.lines.specs.Close.{closing};
 
 const NEWLINE: u8 = 10;
 
@@ -157,6 +158,24 @@ pub fn to_front(s: &mut [u8], from: usize, to: usize) -> usize
     while i < n {
         s[i] = s[from + i];
         i += 1;
+    }
+    n
+}
+
+// Where the bytes end that are taken, once there are n. Where nothing was read behind the `kept` that waited the input has
+// ended, and a last line that lacks its newline gets one.
+pub fn close(buf: &mut [u8], kept: usize, n: usize) -> usize
+    ensures { λ r. ⌜ (r, now (buf .exit)) ≡ closing (now (buf .entry)) kept n ⌝ }
+{
+    if buf.len() <= n {
+        return buf.len();
+    }
+    if n == kept {
+        if n == 0 {
+            return 0;
+        }
+        buf[n] = NEWLINE;
+        return n + 1;
     }
     n
 }

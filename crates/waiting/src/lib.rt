@@ -3,7 +3,6 @@
 ghost use mathlib.Core.Path.{_≡_};
 ghost use Rattle.frames.specs.Frames.{Machine, onMachine};
 ghost use Rattle.inputs.specs.Waiting.{front, heard, served};
-ghost use Rattle.inputs.specs.Served.{Closed};
 use cores::Powers;
 use cores::Turns;
 use ledger::Ledger;
@@ -12,8 +11,6 @@ use pages::Named;
 use pages::Owners;
 use registers::Saved;
 use setup::Setup;
-
-const NEWLINE: u8 = 10;
 
 // The bytes that wait, and behind them those of a read.
 pub type Input = [u8; 65536];
@@ -25,24 +22,6 @@ pub type Output = [u8; 327751];
 pub struct Due {
     pub put: usize,
     pub kept: usize,
-}
-
-// Where the bytes end that are to be answered, once there are n. Where nothing was read behind those that waited the input
-// has ended, and a last line that lacks its newline gets one.
-fn close(buf: &mut [u8], kept: usize, n: usize) -> usize
-    ensures { λ r. ⌜ Closed (now (buf .entry)) kept n r (now (buf .exit)) ⌝ }
-{
-    if buf.len() <= n {
-        return buf.len();
-    }
-    if n == kept {
-        if n == 0 {
-            return 0;
-        }
-        buf[n] = NEWLINE;
-        return n + 1;
-    }
-    n
 }
 
 // What a read calls for, where `kept` bytes waited before it and there are n after it.
@@ -62,7 +41,7 @@ pub fn answer_read(
 ) -> Due
     ensures { λ r. ⌜ onMachine setup named book owners saved powers turns lists (λ (m m′ : Machine). (m′, (front (r .put) (now (out .exit)), front (r .kept) (now (buf .exit)))) ≡ served m (heard (now (buf .entry)) kept n)) ⌝ }
 {
-    let end = close(buf, kept, n);
+    let end = lines::close(buf, kept, n);
     let bytes: &[u8] = buf;
     let fed = stream::feed(
         &bytes[0..end],

@@ -1,6 +1,6 @@
 -- Every table is made as it is before the first frame, and the loop starts from there.
 use borrow.Author.Needs.{needs}
-use Rattle.inputs.specs.Loop.{ran-left}
+use Rattle.inputs.specs.Monitor.{ran-left}
 use Rattle.console.proofs.run.Statement.{statement}
 use Rattle.console.proofs.run.Tie as tie
 

@@ -2,7 +2,7 @@ use borrow.Author.Needs.{needs}
 use mathlib.Core.Path.{refl}
 use Rattle.rules.specs.Choice.{yes-or-no}
 use Rattle.frames.specs.Frames.{machine}
-use Rattle.inputs.specs.Loop.{Serving, serving-none, serving-on, served-all}
+use Rattle.inputs.specs.Monitor.{Serving, serving-none, serving-on, served-all}
 use Rattle.console.proofs.serve.Statement.{statement}
 use Rattle.console.proofs.serve.Tie as tie
 

@@ -1,5 +1,6 @@
 -- There is room for every answer, so one feed answers all the complete lines, and what it leaves has no newline.
 use borrow.Author.Needs.{needs}
+use Rattle.lines.specs.Close.{close-inside}
 use Rattle.inputs.specs.Served.{serves}
 use Rattle.waiting.proofs.answer_read.Statement.{statement}
 use Rattle.waiting.proofs.answer_read.Tie as tie
@@ -14,7 +15,7 @@ part-feed-start : tie.Need-part-feed-start
 part-feed-start c = search needs
 
 part-feed-end : tie.Need-part-feed-end
-part-feed-end c = search needs
+part-feed-end c = search (needs, close-inside)
 
 feed-requires : tie.Need-feed-requires
 feed-requires c κs = search needs

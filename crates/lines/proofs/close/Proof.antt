@@ -1,8 +1,8 @@
 -- Each return of `close` stands at a case of the definition.
 use borrow.Author.Needs.{needs}
-use Rattle.inputs.specs.Served.{closings}
-use Rattle.waiting.proofs.close.Statement.{statement}
-use Rattle.waiting.proofs.close.Tie as tie
+use Rattle.lines.specs.Close.{closings}
+use Rattle.lines.proofs.close.Statement.{statement}
+use Rattle.lines.proofs.close.Tie as tie
 
 returns : tie.Need-returns
 returns c = search (needs, closings)
