@@ -1,2 +1,4 @@
 pub mod Bytes
 pub mod Digits
+pub mod Put
+pub mod Downward

@@ -102,3 +102,25 @@ pub fn put_numbers(out: &mut [u8], at: usize, x0: u64, x1: u64, x2: u64, x3: u64
     put_pairs(&bs, out, at);
     at + 64
 }
+
+// The last n digits of a number, put or not in the same way.
+pub fn put_digits(out: &mut [u8], at: usize, n: usize, x: u64) -> usize
+    ensures { λ r. ⌜ (r, now (out .exit)) ≡ put (now (out .entry)) at (inHex n x) ⌝ }
+{
+    if out.len() < n {
+        return at;
+    }
+    if out.len() - n < at {
+        return at;
+    }
+    let mut y = x;
+    let mut left = n;
+    while 0 < left {
+        let i = left - 1;
+        let d = (y % 16) as u8;
+        out[at + i] = sign(d);
+        y = y / 16;
+        left = i;
+    }
+    at + n
+}
