@@ -1,12 +1,12 @@
 -- Texts put one behind the other, where there is room for all.
-use mathlib.Core.Path.{_≡_, ap, _∙_}
-use mathlib.Core.List.{List, _++_}
-use Prim.Native.Nat.{ℕ, _+_, _≤_}
+use mathlib.Core.Path.{_≡_, refl, ap, _∙_}
+use mathlib.Core.List.{List, [], _∷_, _++_}
+use Prim.Native.Nat.{ℕ, _+_, _≤_, _<_}
 use native.Mathlib.Omega.{arith}
-use lib.ListN.{length, length-append}
+use lib.ListN.{length, set, length-append}
 use borrow.Author.Tests.{le-leb}
 use Rattle.rules.specs.Choice.{pick-yes}
-use Rattle.tools.specs.Laid.{laid, put, length-laid, laid-append, put-fits}
+use Rattle.tools.specs.Laid.{laid, put, laid-one, length-laid, laid-append, put-fits, put-not}
 
 -- where one fits it was laid, and the place behind it is known
 record Laid (o o′ : List ℕ) (at a n : ℕ) (v : List ℕ) : Type 0 where
@@ -39,3 +39,10 @@ put-three o o₁ o₂ p at a b c k m n u v w hu hv hw g x y z =
     let d = was-put o o₁ at a k u hu (omega arith) x in
     put-then o o₁ p at a c k (m + n) u (v ++ w) hu (length-append v w ∙ omega arith) g x
     (put-then o₁ o₂ p a b c m n v w hv hw (omega (arith, d .place, d .size)) y z)
+
+-- ---- a newline
+pub end-put : (o : List ℕ) (at : ℕ) → at < length o → (at + 1, set o at 10) ≡ put o at (10 ∷ [])
+end-put o at h = put-fits o at (10 ∷ []) 1 refl (set o at 10) (omega arith) (laid-one o at 10)
+
+pub end-not : (o : List ℕ) (at : ℕ) → length o ≤ at → (at, o) ≡ put o at (10 ∷ [])
+end-not o at h = put-not o at (10 ∷ []) 1 refl (omega arith)

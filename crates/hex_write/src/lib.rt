@@ -124,3 +124,14 @@ pub fn put_digits(out: &mut [u8], at: usize, n: usize, x: u64) -> usize
     }
     at + n
 }
+
+// The newline, where there is room for it.
+pub fn put_end(out: &mut [u8], at: usize) -> usize
+    ensures { λ r. ⌜ (r, now (out .exit)) ≡ put (now (out .entry)) at (10 ∷ []) ⌝ }
+{
+    if at < out.len() {
+        out[at] = 10;
+        return at + 1;
+    }
+    at
+}

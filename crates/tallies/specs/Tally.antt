@@ -1,15 +1,15 @@
 -- How many accepted calls each world made, by their answers: a table of counts, behind them how many were counted in all, and whether one came too many.
-use mathlib.Core.Path.{_≡_, refl, sym, ap, _∙_}
-use mathlib.Core.Bool.{Bool, true, false, not, _&&_}
-use mathlib.Core.List.{List, [], _∷_}
-use Prim.Native.Nat.{ℕ, _+_, _*_, _/_, _%_, _≤_, _<_}
+use mathlib.Core.Path.{_≡_, refl, sym}
+use mathlib.Core.Bool.{Bool, true, false, _&&_}
+use mathlib.Core.List.{List}
+use Prim.Native.Nat.{ℕ, _+_, _*_, _≤_, _<_}
 use native.Mathlib.Omega.{arith}
-use lib.Dec.{ltb, leb, eqb}
-use lib.ListN.{length, replicate}
-use borrow.Author.Tests.{lt-ltb, le-ltb, le-leb, lt-leb, eq-eqb, ne-eqb}
-use Rattle.rules.specs.Choice.{pick, pick-yes, pick-no, picked, passed, both-true, left-false, right-false}
+use lib.Dec.{ltb, leb}
+use lib.ListN.{replicate}
+use borrow.Author.Tests.{lt-ltb, le-ltb, le-leb, lt-leb}
+use Rattle.rules.specs.Choice.{pick, picked, passed, both-true, left-false, right-false}
 use Rattle.rules.specs.Sizes.{worlds}
-use Rattle.tools.specs.Store.{read, write, Whole}
+use Rattle.tools.specs.Store.{read, write}
 use Rattle.tallies.specs.Rows.{rows, rowOf}
 
 -- at most so many calls are counted
@@ -36,7 +36,7 @@ total t = read size t places
 
 -- whether a call came after the last that is counted
 abbrev pub over : List ℕ → Bool
-over t = not (eqb (read size t (places + 1)) 0)
+over t = ltb 0 (read size t (places + 1))
 
 -- where the calls of a world with an answer are counted
 abbrev pub placeOf : ℕ → ℕ → ℕ
@@ -68,6 +68,15 @@ module _ (n : ℕ) where
   more-none h = passed _ _ _ _ (le-ltb n most h) refl
 
 pub ruleset mores = (more-one, more-none)
+
+module _ (t : List ℕ) (n : ℕ) (is : n ≡ countAt t 317) where
+  pub over-yes : 0 < n → true ≡ over t
+  over-yes h = sym (lt-ltb 0 (read size t 317) (omega arith))
+
+  pub over-no : n ≤ 0 → false ≡ over t
+  over-no h = sym (le-ltb 0 (read size t 317) (omega arith))
+
+pub ruleset overs = (over-yes, over-no)
 
 module _ (t : List ℕ) (world x n : ℕ) (is : n ≡ total t) where
   pub notes-over : (t′ : List ℕ) → most ≤ n → t′ ≡ write size t (places + 1) 1 → t′ ≡ noted t world x

@@ -1,13 +1,10 @@
 -- The text of answers: lower-case hexadecimal, numbers big-endian, and a newline.
-use mathlib.Core.Path.{_≡_, refl, ap, _∙_}
+use mathlib.Core.Path.{_≡_, refl}
 use mathlib.Core.List.{List, [], _∷_, _++_}
 use Prim.Native.Nat.{ℕ, _+_, _≤_, _<_}
-use native.Mathlib.Omega.{arith}
-use lib.ListN.{length, set, length-append}
-use borrow.Author.Tests.{le-leb}
-use Rattle.rules.specs.Choice.{pick-yes}
-use Rattle.tools.specs.Laid.{put, laid-one, put-fits, put-not}
-use Rattle.hex_write.specs.Put.{put-then, put-three}
+use lib.ListN.{length, length-append}
+use Rattle.tools.specs.Laid.{put, put-not}
+use Rattle.hex_write.specs.Put.{put-three}
 use Rattle.hex.specs.Hex.{inHex, length-hex}
 use Rattle.hex_write.specs.Digits.{fourText, length-four}
 use Rattle.parsing.specs.Frame.{statusByte}
@@ -43,12 +40,6 @@ unfolding callText
 length-call core world x0 x1 x2 x3 = simp (length-append, length-head, length-four)
 
 -- ---- a whole answer, put or not
-pub end-put : (o : List ℕ) (at : ℕ) → at < length o → (at + 1, set o at 10) ≡ put o at (10 ∷ [])
-end-put o at h = put-fits o at (10 ∷ []) 1 refl (set o at 10) (omega arith) (laid-one o at 10)
-
-pub end-not : (o : List ℕ) (at : ℕ) → length o ≤ at → (at, o) ≡ put o at (10 ∷ [])
-end-not o at h = put-not o at (10 ∷ []) 1 refl (omega arith)
-
 module _ (o o₁ o₂ p : List ℕ) (at a b c : ℕ) where
   pub head-put :
       (core world : ℕ) → at + 6 ≤ length o →

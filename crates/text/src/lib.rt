@@ -1,7 +1,6 @@
 // The text of answers.
 use parsing::Status;
 ghost use mathlib.Core.Path.{_≡_};
-ghost use mathlib.Core.List.{[], _∷_};
 ghost use Prim.Native.Nat.{_+_, _≤_};
 ghost use lib.ListN.{length};
 ghost use Rattle.tools.specs.Laid.{put};
@@ -11,17 +10,6 @@ ghost use Rattle.text.specs.Text.{headText, statusText, callText};
 const STATUS: usize = 5;
 
 pub const LONGEST: usize = 71;
-
-// The newline, where there is room for it.
-fn put_end(out: &mut [u8], at: usize) -> usize
-    ensures { λ r. ⌜ (r, now (out .exit)) ≡ put (now (out .entry)) at (10 ∷ []) ⌝ }
-{
-    if at < out.len() {
-        out[at] = 10;
-        return at + 1;
-    }
-    at
-}
 
 // What stands before the numbers of a call's answer.
 fn put_head(out: &mut [u8], at: usize, core: u64, world: u64) -> usize
@@ -46,7 +34,7 @@ pub fn put_status(out: &mut [u8], at: usize, s: Status) -> usize
     }
     let a = hex_write::put_byte(out, at, 0xa0);
     let b = hex_write::put_byte(out, a, parsing::byte_of(s));
-    put_end(out, b)
+    hex_write::put_end(out, b)
 }
 
 // The answer to an accepted call: a1, the core, the world that runs there and its x0 to x3; put or not in the same way.
@@ -70,5 +58,5 @@ pub fn put_call(
     }
     let a = put_head(out, at, core, world);
     let b = hex_write::put_numbers(out, a, x0, x1, x2, x3);
-    put_end(out, b)
+    hex_write::put_end(out, b)
 }

@@ -4,8 +4,8 @@ use Rattle.tallies.specs.Tally.{notes}
 use Rattle.tallies.proofs.note.Statement.{statement}
 use Rattle.tallies.proofs.note.Tie as tie
 
-at-requires : tie.Need-at-requires
-at-requires c κs = search needs
+count-at-requires : tie.Need-count-at-requires
+count-at-requires c κs = search needs
 
 put-requires : tie.Need-put-requires
 put-requires c κs = search needs
@@ -28,8 +28,8 @@ mul-i c = search needs
 add-i : tie.Need-add-i
 add-i c = search needs
 
-at-requires-2 : tie.Need-at-requires-2
-at-requires-2 c κs = search needs
+count-at-requires-2 : tie.Need-count-at-requires-2
+count-at-requires-2 c κs = search needs
 
 one-more-requires : tie.Need-one-more-requires
 one-more-requires c κs = search needs
@@ -37,8 +37,8 @@ one-more-requires c κs = search needs
 put-requires-2 : tie.Need-put-requires-2
 put-requires-2 c κs = search needs
 
-at-requires-3 : tie.Need-at-requires-3
-at-requires-3 c κs = search needs
+count-at-requires-3 : tie.Need-count-at-requires-3
+count-at-requires-3 c κs = search needs
 
 one-more-requires-2 : tie.Need-one-more-requires-2
 one-more-requires-2 c κs = search needs
@@ -53,7 +53,7 @@ pub note-spec : {M : Type 1} → statement M
 note-spec =
     tie.close
     (tie.spec
-    at-requires
+    count-at-requires
     put-requires
     returns
     row-of-requires
@@ -61,10 +61,10 @@ note-spec =
     returns-3
     mul-i
     add-i
-    at-requires-2
+    count-at-requires-2
     one-more-requires
     put-requires-2
-    at-requires-3
+    count-at-requires-3
     one-more-requires-2
     put-requires-3
     returns-4)

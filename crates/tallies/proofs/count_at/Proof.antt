@@ -1,8 +1,8 @@
 -- A place inside is read, and one past the last is 0.
 use borrow.Author.Needs.{needs}
 use Rattle.tools.specs.Store.{stores}
-use Rattle.tallies.proofs.at.Statement.{statement}
-use Rattle.tallies.proofs.at.Tie as tie
+use Rattle.tallies.proofs.count_at.Statement.{statement}
+use Rattle.tallies.proofs.count_at.Tie as tie
 
 mul-result : tie.Need-mul-result
 mul-result c = search needs
@@ -16,5 +16,5 @@ returns c = search (needs, stores)
 returns-2 : tie.Need-returns-2
 returns-2 c = search (needs, stores)
 
-pub at-spec : {M : Type 1} → statement M
-at-spec = tie.close (tie.spec mul-result element-copy-out-result returns returns-2)
+pub count-at-spec : {M : Type 1} → statement M
+count-at-spec = tie.close (tie.spec mul-result element-copy-out-result returns returns-2)

@@ -1,8 +1,8 @@
--- `text::put_end` meets its promise: a newline is one byte.
+-- `hex_write::put_end` meets its promise: a newline is one byte.
 use borrow.Author.Needs.{needs}
-use Rattle.text.specs.Text.{end-put, end-not}
-use Rattle.text.proofs.put_end.Statement.{statement}
-use Rattle.text.proofs.put_end.Tie as tie
+use Rattle.hex_write.specs.Put.{end-put, end-not}
+use Rattle.hex_write.proofs.put_end.Statement.{statement}
+use Rattle.hex_write.proofs.put_end.Tie as tie
 
 slice-write-out : tie.Need-slice-write-out
 slice-write-out c = search needs
