@@ -9,12 +9,12 @@ use Rattle.rules.specs.Choice.{pick-yes}
 use Rattle.tools.specs.Laid.{laid, put, laid-one, length-laid, laid-append, put-fits, put-not}
 
 -- where one fits it was laid, and the place behind it is known
-record Laid (o o′ : List ℕ) (at a n : ℕ) (v : List ℕ) : Type 0 where
-  place : a ≡ at + n
-  is : o′ ≡ laid o at v
-  size : length o′ ≡ length o
+pub record Laid (o o′ : List ℕ) (at a n : ℕ) (v : List ℕ) : Type 0 where
+  pub place : a ≡ at + n
+  pub is : o′ ≡ laid o at v
+  pub size : length o′ ≡ length o
 
-was-put : (o o′ : List ℕ) (at a n : ℕ) (v : List ℕ) → length v ≡ n → at + n ≤ length o → (a, o′) ≡ put o at v → Laid o o′ at a n v
+pub was-put : (o o′ : List ℕ) (at a n : ℕ) (v : List ℕ) → length v ≡ n → at + n ≤ length o → (a, o′) ≡ put o at v → Laid o o′ at a n v
 unfolding put
 was-put o o′ at a n v h g e =
     let p : _≡_ {A = ℕ × List ℕ} (a, o′) (at + length v, laid o at v) = e ∙ pick-yes _ _ _ (le-leb (at + length v) (length o) (omega arith)) in
