@@ -2,6 +2,7 @@
 use mathlib.Core.Bool.{Bool, true, false}
 use mathlib.Core.List.{List, [], _∷_}
 use Prim.Native.Nat.{ℕ, _-_, _^_}
+use lib.ListN.{getD}
 use Rattle.identifiers.specs.Identifier.{answerBits}
 use Rattle.identifiers.specs.declared.Parts.{Parts}
 use Rattle.rules.specs.Reasons.{minus}
@@ -32,6 +33,10 @@ written p (Leads phys attr) = 0 ∷ phys ∷ attr ∷ []
 written p (Count n) = n ∷ []
 written p Silent = []
 written p (No r) = negative p (minus r) ∷ []
+
+-- what it writes in x0; 0 where it writes nothing
+abbrev pub told : Parts → Answer → ℕ
+told p a = getD (written p a) 0 0
 
 -- the frame's eight numbers, and over them the answer's results, of a call of these parts
 abbrev pub answeredBy : Parts → List ℕ → ℕ → ℕ → List ℕ → Answer → List ℕ

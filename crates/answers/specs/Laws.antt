@@ -14,7 +14,7 @@ use Rattle.registers.specs.Registers.{Whole, saved, saving, saving-none, saving
 use Rattle.judgements.specs.Judge.{calledBy}
 use Rattle.judgements.specs.declared.Answer.{Answer}
 use Rattle.judgements.specs.declared.Answer.the-variants.{Version, PowerVersion, Done, On, Off, Pending, Owns, Leads, Count, Silent, No}
-use Rattle.answers.specs.Answers.{negative, bit, written, answeredBy, answeredIn}
+use Rattle.answers.specs.Answers.{negative, bit, written, told, answeredBy, answeredIn}
 
 -- ---- the code
 module _ (p : Parts) (a : Answer) (r r′ : List ℕ) (c w : ℕ) where
@@ -29,6 +29,9 @@ module _ (p : Parts) (a : Answer) (r r′ : List ℕ) (c w : ℕ) where
 
   pub writes-no : (q : Reason) (n : ℕ) → a ≡ No q → n ≡ negative p (minus q) → r′ ≡ saving r c w (n ∷ []) → r′ ≡ saving r c w (written p a)
   writes-no q n e f h = rw (e, ← f) h
+
+pub tells-no : (p : Parts) (a : Answer) (q : Reason) (n : ℕ) → a ≡ No q → n ≡ negative p (minus q) → n ≡ told p a
+tells-no p a q n e f = rw (e, ← f)
 
 -- a refusal is counted down from the end of its width, and neither step leaves 64 bits
 module _ (p : Parts) (q : Reason) (high n : ℕ) (e : high ≡ 2 ^ answerBits p - 1) (f : n ≡ minus q) where

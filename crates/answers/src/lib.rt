@@ -2,7 +2,7 @@
 ghost use mathlib.Core.Path.{_≡_};
 ghost use Rattle.registers.specs.Registers.{saving};
 ghost use Rattle.rules.specs.Reasons.{minus};
-ghost use Rattle.answers.specs.Answers.{negative, bit, written};
+ghost use Rattle.answers.specs.Answers.{negative, bit, written, told};
 use identifiers::Parts;
 use judgements::Answer;
 use registers::Saved;
@@ -49,5 +49,24 @@ pub fn write_answer(t: &mut Saved, core: u64, world: u64, p: Parts, a: Answer)
         Answer::Count(n) => registers::save_one(t, core, world, n),
         Answer::Silent => {}
         Answer::No(r) => registers::save_one(t, core, world, negative_of(p, r)),
+    }
+}
+
+// What an answer writes in x0; 0 where it writes nothing.
+pub fn told(p: Parts, a: Answer) -> u64
+    ensures { λ n. ⌜ n ≡ told p a ⌝ }
+{
+    match a {
+        Answer::Version => 0x10003,
+        Answer::PowerVersion => 0x10001,
+        Answer::Done => 0,
+        Answer::On => 0,
+        Answer::Off => 1,
+        Answer::Pending => 2,
+        Answer::Owns(is) => bit_of(is),
+        Answer::Leads { phys: _, attr: _ } => 0,
+        Answer::Count(n) => n,
+        Answer::Silent => 0,
+        Answer::No(r) => negative_of(p, r),
     }
 }
