@@ -161,10 +161,6 @@ module _ (s : List ℕ) (m : Machine) (at done : ℕ) (out : List ℕ) (o : Stan
 
 pub ruleset stops = (stops-full, stops-end, stops-unfinished)
 
--- a line more has been read, and what is printed still ends inside
-module _ (s xs ys : List ℕ) (at : ℕ) (k : Next) (next : (k, ys) ≡ nextOf s at xs) (f : Frame) (after : ℕ) (is : k ≡ Line f after) where
-  pub reads-on : length s - after < length s - at
-  reads-on = let n = next-inside s xs ys at f after (rw is at next) in omega arith
-
+-- what is printed still ends inside
 pub ends-inside : (m m′ : Machine) (f : Frame) (xs out out′ : List ℕ) (done done′ : ℕ) → (m′, (done′, out′)) ≡ answered m f xs out done → done ≤ length out → (done′ ≤ length out′) × (length out′ ≡ length out)
 ends-inside m m′ f xs out out′ done done′ e h = put-inside out done _ done′ out′ (ap (λ (q : Machine × (ℕ × List ℕ)). q .1) e) h

@@ -4,6 +4,7 @@ pub mod Reads
 pub mod Waiting
 pub mod Carried
 pub mod Closing
+pub mod Feeding
 pub mod Loop
 pub mod Run
 pub mod Parts

@@ -2,7 +2,7 @@
 use mathlib.Core.Path.{_≡_, refl, sym, ap}
 use mathlib.Core.Bool.{Bool}
 use mathlib.Core.List.{List, []}
-use Prim.Native.Nat.{ℕ, _+_, _≤_, _<_}
+use Prim.Native.Nat.{ℕ, _+_, _-_, _≤_, _<_}
 use native.Mathlib.Omega.{arith}
 use lib.Dec.{ltb}
 use lib.ListN.{length}
@@ -72,3 +72,22 @@ module _ (s xs ys : List ℕ) (at : ℕ) where
 
   pub next-inside : (f : Frame) (after : ℕ) → (Line f after, ys) ≡ nextOf s at xs → (at < after) × (after ≤ length s)
   next-inside f after e = let d = next-found f after e in (omega (arith, d .next, end-from s at), omega (arith, d .next, d .whole))
+
+-- ---- where the line at a place lies
+module _ (s xs ys : List ℕ) (at : ℕ) (next : Next) (e : (next, ys) ≡ nextOf s at xs) (fr : Frame) (after : ℕ) (is : next ≡ Line fr after) where
+  inside : (at < after) × (after ≤ length s)
+  inside = next-inside s xs ys at fr after (rw is at e)
+
+  pub inside-some : 1 ≤ after
+  inside-some = omega (arith, inside)
+
+  pub inside-low : at ≤ after - 1
+  inside-low = omega (arith, inside)
+
+  pub inside-high : after - 1 ≤ length s
+  inside-high = omega (arith, inside)
+
+  pub reads-on : length s - after < length s - at
+  reads-on = omega (arith, inside)
+
+pub ruleset insides = (inside-some, inside-low, inside-high, reads-on)

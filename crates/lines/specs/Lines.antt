@@ -194,7 +194,7 @@ module _ (s : List ℕ) (at : ℕ) where
       end-none s at (at + k) (omega arith) (omega arith) (sym (getD-drop at s k 0) ∙ z)
 
   module _ (h : endOf s at < length s) where
-    split-line : drop at s ≡ lineAt s at ++ 10 ∷ drop (endOf s at + 1) s
+    pub split-line : drop at s ≡ lineAt s at ++ 10 ∷ drop (endOf s at + 1) s
     split-line =
         let f = end-from s at in
         let j = endOf s at - at in

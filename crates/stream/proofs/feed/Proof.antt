@@ -6,7 +6,8 @@ use Prim.Native.Nat.{_-_, _≤_}
 use lib.ListN.{length}
 use Rattle.frames.specs.Frames.{machine}
 use mathlib.Core.Path.{_≡_, refl, _∙_}
-use Rattle.inputs.specs.Fed.{stand, fed, stops, goes-on, reads-on, ends-inside}
+use Rattle.lines.specs.Input.{reads-on}
+use Rattle.inputs.specs.Fed.{stand, fed, stops, goes-on, ends-inside}
 
 abbrev Inv-loop : tie.InvT-loop
 Inv-loop chunk out₀ setup₀ named₀ book₀ owners₀ saved₀ powers₀ turns₀ lists₀ x₀ at₀ put₀ out setup named book owners saved powers turns lists x at put =

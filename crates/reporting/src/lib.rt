@@ -1,0 +1,97 @@
+// The run of a report over any bytes: each complete line of a read is taken, and what is unfinished waits for more.
+ghost use mathlib.Core.Path.{_≡_};
+ghost use mathlib.Core.Bool.{true};
+ghost use Rattle.frames.specs.Frames.{Machine, onMachine, first};
+ghost use Rattle.inputs.specs.Feeding.{feeding};
+ghost use Rattle.inputs.specs.Waiting.{front, heard, taken};
+ghost use Rattle.counting.specs.Counted.{meaning, afterLine};
+ghost use Rattle.reporting.specs.Reading.{Noted};
+use cores::Powers;
+use cores::Turns;
+use ledger::Ledger;
+use lines::Next;
+use mapping::Lists;
+use pages::Named;
+use pages::Owners;
+use registers::Saved;
+use setup::Setup;
+use tallies::Tally;
+
+// The bytes that wait, and behind them those of a read.
+pub type Input = [u8; 65536];
+
+// Takes the complete lines of a chunk, and says how far they go.
+pub fn feed(
+    chunk: &[u8],
+    tally: &mut Tally,
+    setup: &mut Setup,
+    named: &mut Named,
+    book: &mut Ledger,
+    owners: &mut Owners,
+    saved: &mut Saved,
+    powers: &mut Powers,
+    turns: &mut Turns,
+    lists: &mut Lists,
+) -> usize
+    ensures { λ r. ⌜ onMachine setup named book owners saved powers turns lists (λ (m m′ : Machine). (r, (m′, now (tally .exit))) ≡ feeding afterLine meaning (m, now (tally .entry)) 0 (now (chunk .entry))) ⌝ }
+{
+    let mut x = [0u64; 8];
+    let mut at: usize = 0;
+    while at < chunk.len() {
+        let Next::Line { frame, after } = lines::next_line(chunk, at, &mut x) else {
+            return at;
+        };
+        let end = after - 1;
+        let between = counting::is_apart(&chunk[at..end]);
+        counting::take_line(
+            between,
+            frame,
+            &x,
+            tally,
+            setup,
+            named,
+            book,
+            owners,
+            saved,
+            powers,
+            turns,
+            lists,
+        );
+        at = after;
+    }
+    at
+}
+
+// What a read calls for, where `kept` bytes waited before it and there are n after it: how many wait then.
+pub fn take_read(
+    buf: &mut Input,
+    kept: usize,
+    n: usize,
+    tally: &mut Tally,
+    setup: &mut Setup,
+    named: &mut Named,
+    book: &mut Ledger,
+    owners: &mut Owners,
+    saved: &mut Saved,
+    powers: &mut Powers,
+    turns: &mut Turns,
+    lists: &mut Lists,
+) -> usize
+    ensures { λ r. ⌜ onMachine setup named book owners saved powers turns lists (λ (m m′ : Machine). ((m′, now (tally .exit)), front r (now (buf .exit))) ≡ taken afterLine meaning (m, now (tally .entry)) (heard (now (buf .entry)) kept n)) ⌝ }
+{
+    let end = lines::close(buf, kept, n);
+    let bytes: &[u8] = buf;
+    let used = feed(
+        &bytes[0..end],
+        tally,
+        setup,
+        named,
+        book,
+        owners,
+        saved,
+        powers,
+        turns,
+        lists,
+    );
+    lines::to_front(buf, used, end)
+}
