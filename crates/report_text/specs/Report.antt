@@ -171,3 +171,7 @@ lines-room o o₁ a h e = let k = was-put o o₁ 0 a 5 noticeText length-notice 
 pub report-plain : (t o p : List ℕ) (b : ℕ) → over t ≡ false → (b, p) ≡ put o 0 (linesFrom t 0 places) → (b, p) ≡ put o 0 (reportText t)
 unfolding reportText
 report-plain t o p b n e = rw (pick-no (over t) noticeText [] n) e
+
+-- the space once a report is laid over it
+pub told-space : (o o′ text : List ℕ) (n : ℕ) → (n, o′) ≡ put o 0 text → o′ ≡ put o 0 text .1
+told-space o o′ text n e = ap (λ (q : ℕ × List ℕ). q .1) e

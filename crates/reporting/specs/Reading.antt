@@ -8,12 +8,21 @@ use lib.ListN.{length, take}
 use Rattle.lines.specs.Lines.{lineAt, part, nextOf, endOf}
 use Rattle.lines.specs.Meant.{meant}
 use Rattle.lines.specs.Input.{reading-of, next-found}
+use Rattle.lines.specs.Front.{fronted}
+use Rattle.lines.specs.Close.{closing}
 use Rattle.parsing.specs.declared.Frame.{Frame}
 use Rattle.lines.specs.declared.Next.{Next}
 use Rattle.lines.specs.declared.Next.the-variants.{Line, Unfinished}
-use Rattle.frames.specs.Frames.{Machine, first}
+use Rattle.ledger.specs.Ledger.{empty}
+use Rattle.registers.specs.Registers.{zeros}
+use Rattle.cores.specs.Cores.{firstPowers, firstTurns}
+use Rattle.pages.specs.Owners.{unowned}
+use Rattle.pages.specs.Named.{unnamed}
+use Rattle.mapping.specs.Lists.{unmapped}
+use Rattle.setup.specs.Table.{unset}
+use Rattle.frames.specs.Frames.{Machine, machine, first}
 use Rattle.inputs.specs.Folds.{left}
-use Rattle.inputs.specs.Feeding.{feeding, feeding-end, feeding-stop, feeding-line}
+use Rattle.inputs.specs.Feeding.{feeding, feeding-end, feeding-stop, feeding-line, feeds}
 use Rattle.inputs.specs.Waiting.{heard, front, taken}
 use Rattle.inputs.specs.Carried.{carried}
 use Rattle.inputs.specs.Loop as Loop
@@ -42,28 +51,43 @@ module _ (s : List ℕ) (k : Kept) (at : ℕ) (o : ℕ × Kept) (inv : feeding a
 
 pub ruleset stops = (stops-end, stops-unfinished)
 
+-- ---- a read
+pub read-taken : (k k′ : Kept) (buf : List ℕ) (kept n end : ℕ) (b : List ℕ) (used kept′ : ℕ) (b′ : List ℕ)
+    → (end, b) ≡ closing buf kept n → (used, k′) ≡ feeding afterLine meaning k 0 (part b 0 end) → (kept′, b′) ≡ fronted b used end
+    → (k′, front kept′ b′) ≡ taken afterLine meaning k (heard buf kept n)
+read-taken = feeds afterLine meaning
+
 -- ---- the loop of reads
 abbrev pub Serving : Kept → Kept → List ℕ → ℕ → Type 0
 Serving k₀ k s kept = Loop.Serving afterLine meaning k₀ k s kept
 
-pub serving-none : (m : Machine) (t s : List ℕ) → m ≡ first → Serving (first, t) (m, t) s 0
-serving-none m t s e = rw e (Loop.serving-none afterLine meaning (first, t) s)
+pub serving-none : (k : Kept) (s : List ℕ) → Serving k k s 0
+serving-none = Loop.serving-none afterLine meaning
 
+-- what is kept after an input
+abbrev pub Ran : Kept → Kept → Type 0
+Ran k k′ = Loop.Ran afterLine meaning k k′
+
+-- one read more, which left what waits where it was
+module _ (k₀ k : Kept) (s₀ : List ℕ) (kept : ℕ) (v : Serving k₀ k s₀ kept) (s : List ℕ) (n : ℕ) (same : take kept s ≡ take kept s₀)
+    (k′ : Kept) (kept′ : ℕ) (s′ : List ℕ) (e : (k′, front kept′ s′) ≡ taken afterLine meaning k (heard s kept n)) where
+  -- and brought something
+  pub serving-on : kept ≤ n → (n ≡ kept → ⊥) → Serving k₀ k′ s′ kept′
+  serving-on = Loop.serving-on afterLine meaning k₀ k s₀ kept v s n same k′ kept′ s′ (carried afterLine meaning k (heard s kept n) k′ kept′ s′ e)
+
+  -- or nothing: the input has ended
+  pub served-all : n ≡ kept → 65536 ≡ length s → Ran k₀ k′
+  served-all z h = Loop.served-all afterLine meaning k₀ k s₀ kept v s n same k′ kept′ s′ (carried afterLine meaning k (heard s kept n) k′ kept′ s′ e) meaning-blind z (omega arith)
+
+-- ---- from tables as they are before the first frame
 -- a table with the calls noted that are counted of an input
 pub record Noted (t t′ : List ℕ) : Type 0 where
   pub input : List ℕ
   pub is : t′ ≡ notedAll t (counted input)
 
--- one read more, which left what waits where it was
-module _ (t k₀s : List ℕ) (k k′ : Kept) (kept : ℕ) (v : Serving (first, t) k k₀s kept) (s : List ℕ) (n : ℕ) (same : take kept s ≡ take kept k₀s)
-    (kept′ : ℕ) (s′ : List ℕ) (e : (k′, front kept′ s′) ≡ taken afterLine meaning k (heard s kept n)) where
-  -- and brought something
-  pub serving-on : kept ≤ n → (n ≡ kept → ⊥) → Serving (first, t) k′ s′ kept′
-  serving-on = Loop.serving-on afterLine meaning (first, t) k k₀s kept v s n same k′ kept′ s′ (carried afterLine meaning k (heard s kept n) k′ kept′ s′ e)
-
-  -- or nothing: the input has ended
-  pub served-all : n ≡ kept → 65536 ≡ length s → Noted t (k′ .1)
-  unfolding left counted
-  served-all z h =
-      let r = Loop.served-all afterLine meaning (first, t) k k₀s kept v s n same k′ kept′ s′ (carried afterLine meaning k (heard s kept n) k′ kept′ s′ e) meaning-blind z (omega arith) in
-      record { input = r .input; is = ap (λ (q : Kept). q .1) (r .is) ∙ kept-noted (meant meaning (r .input)) first t }
+pub ran-noted : (s n l o r p t k c : List ℕ) (whole : Bool) (m′ : Machine) (c′ : List ℕ) → (whole ≡ true → Ran (machine s n l o r p t k, c) (m′, c′)) → whole ≡ true
+    → s ≡ unset → n ≡ unnamed → l ≡ empty → o ≡ unowned → r ≡ zeros → p ≡ firstPowers → t ≡ firstTurns → k ≡ unmapped → Noted c c′
+unfolding left counted
+ran-noted s n l o r p t k c whole m′ c′ ran y d e f g h i j z =
+    let q : Ran (first, c) (m′, c′) = rw (d, e, f, g, h, i, j, z) at (ran y) in
+    record { input = q .input; is = ap (λ (u : Kept). u .1) (q .is) ∙ kept-noted (meant meaning (q .input)) first c }

@@ -1,11 +1,9 @@
 // The run of a report over any bytes: each complete line of a read is taken, and what is unfinished waits for more.
 ghost use mathlib.Core.Path.{_≡_};
-ghost use mathlib.Core.Bool.{true};
-ghost use Rattle.frames.specs.Frames.{Machine, onMachine, first};
+ghost use Rattle.frames.specs.Frames.{Machine, onMachine};
 ghost use Rattle.inputs.specs.Feeding.{feeding};
 ghost use Rattle.inputs.specs.Waiting.{front, heard, taken};
 ghost use Rattle.counting.specs.Counted.{meaning, afterLine};
-ghost use Rattle.reporting.specs.Reading.{Noted};
 use cores::Powers;
 use cores::Turns;
 use ledger::Ledger;
