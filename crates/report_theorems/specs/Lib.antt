@@ -1,0 +1,9 @@
+pub mod Lists
+pub mod Statements
+pub mod ByFrame
+pub mod Possible
+pub mod Accepted
+pub mod Table
+pub mod Text
+pub mod Runs
+pub mod Theorems

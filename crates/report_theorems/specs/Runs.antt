@@ -1,0 +1,81 @@
+-- Runs beside each other: each counts what it counts alone.
+use mathlib.Core.Path.{_≡_, refl, sym, ap, _∙_}
+use mathlib.Core.Bool.{true, false}
+use mathlib.Core.List.{List, [], _∷_, _++_, append-assoc, append-nil}
+use Prim.Native.Nat.{ℕ, zero, suc, _+_}
+use native.Mathlib.Omega.{arith}
+use Rattle.rules.specs.Choice.{pick}
+use Rattle.lines.specs.Lines.{Unbroken}
+use Rattle.lines.specs.Parts.{complete}
+use Rattle.lines.specs.Meant.{meant, meant-none, meant-first, meant-closed, meant-parts}
+use Rattle.lines.specs.Input.{reading}
+use Rattle.frames.specs.Frames.{Machine, first, framed}
+use Rattle.inputs.specs.Cut.{line-complete}
+use Rattle.counting.specs.Counted.{apart, Line, meaning, Counted, countedOf, countedIn, counted}
+use Rattle.report_theorems.specs.Statements.{occurs}
+
+-- ---- a line between two runs
+abbrev pub separator : List ℕ
+separator = 48 ∷ 48 ∷ []
+
+separates : meaning separator ≡ (true, reading separator)
+unfolding meaning apart
+separates = refl
+
+whole-separator : Unbroken separator
+whole-separator zero h e = omega arith
+whole-separator (suc zero) h e = omega arith
+whole-separator (suc (suc k)) h e = omega arith
+
+between : (ls : List Line) (e : Line) (ms : List Line) (m : Machine) → e .0 ≡ true → countedIn m (ls ++ e ∷ ms) ≡ countedIn m ls ++ countedIn first ms
+unfolding countedIn pick
+between [] e ms m y = rw y
+between ((true, l) ∷ ls) e ms m y = between ls e ms first y
+between ((false, l) ∷ ls) e ms m y =
+    ap (λ (cs : List Counted). countedOf m (l .0) (l .1) ++ cs) (between ls e ms (framed m (l .0) (l .1) .0) y)
+    ∙ sym (append-assoc (countedOf m (l .0) (l .1)) (countedIn (framed m (l .0) (l .1) .0) ls) (countedIn first ms))
+
+-- complete lines, a line of 00 and any bytes
+parted : (a b : List ℕ) → counted (complete a ++ (separator ++ 10 ∷ b)) ≡ counted (complete a) ++ counted b
+unfolding counted
+parted a b =
+    ap (countedIn first) (meant-parts meaning a (separator ++ 10 ∷ b) ∙ ap (λ (ls : List Line). meant meaning (complete a) ++ ls) (meant-first meaning separator b whole-separator))
+    ∙ between (meant meaning (complete a)) (meaning separator) (meant meaning b) first (ap (λ (l : Line). l .0) separates)
+
+none-counted : counted [] ≡ []
+unfolding counted countedIn
+none-counted = ap (countedIn first) (meant-none meaning)
+
+-- ---- two runs
+module _ (a b : List ℕ) where
+  pub runs-part : counted ((a ++ 10 ∷ []) ++ (48 ∷ 48 ∷ 10 ∷ b)) ≡ counted (a ++ 10 ∷ []) ++ counted b
+  runs-part =
+      ap (λ (l : List ℕ). counted (l ++ (separator ++ 10 ∷ b))) (sym (line-complete a)) ∙ parted (a ++ 10 ∷ []) b ∙ ap (λ (l : List ℕ). counted l ++ counted b) (line-complete a)
+
+-- nothing before the first, or behind the last
+pub first-part : (b : List ℕ) → counted (48 ∷ 48 ∷ 10 ∷ b) ≡ counted b
+unfolding complete
+first-part b = parted [] b ∙ ap (λ (cs : List Counted). cs ++ counted b) none-counted
+
+pub last-part : (a : List ℕ) → counted ((a ++ 10 ∷ []) ++ (48 ∷ 48 ∷ [])) ≡ counted (a ++ 10 ∷ [])
+unfolding counted
+last-part a =
+    let e = line-complete a in
+    let z : meant meaning ((a ++ 10 ∷ []) ++ separator) ≡ meant meaning ((a ++ 10 ∷ []) ++ (separator ++ 10 ∷ [])) =
+    ap (λ (l : List ℕ). meant meaning (l ++ separator)) (sym e) ∙ meant-parts meaning (a ++ 10 ∷ []) separator
+    ∙ ap (λ (ls : List Line). meant meaning (complete (a ++ 10 ∷ [])) ++ ls) (sym (meant-closed meaning separator whole-separator (λ z. omega arith)))
+    ∙ sym (meant-parts meaning (a ++ 10 ∷ []) (separator ++ 10 ∷ [])) ∙ ap (λ (l : List ℕ). meant meaning (l ++ (separator ++ 10 ∷ []))) e in
+    ap (countedIn first) z ∙ runs-part a [] ∙ ap (λ (cs : List Counted). counted (a ++ 10 ∷ []) ++ cs) none-counted ∙ append-nil (counted (a ++ 10 ∷ []))
+
+-- ---- in either order
+pub occurs-two : (world x : ℕ) (cs ds : List Counted) → occurs world x (cs ++ ds) ≡ occurs world x cs + occurs world x ds
+unfolding occurs
+occurs-two world x [] ds = omega arith
+occurs-two world x (c ∷ cs) ds = omega (arith, occurs-two world x cs ds)
+
+pub either-order : (a b : List ℕ) (world x : ℕ)
+    → occurs world x (counted ((a ++ 10 ∷ []) ++ (48 ∷ 48 ∷ 10 ∷ (b ++ 10 ∷ [])))) ≡ occurs world x (counted ((b ++ 10 ∷ []) ++ (48 ∷ 48 ∷ 10 ∷ (a ++ 10 ∷ []))))
+either-order a b world x =
+    let p = runs-part a (b ++ 10 ∷ []) in
+    let q = runs-part b (a ++ 10 ∷ []) in
+    rw (p, q) (omega (arith, occurs-two world x (counted (a ++ 10 ∷ [])) (counted (b ++ 10 ∷ [])), occurs-two world x (counted (b ++ 10 ∷ [])) (counted (a ++ 10 ∷ []))))
