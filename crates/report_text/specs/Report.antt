@@ -70,6 +70,12 @@ unfolding linesFrom
 lines-short t i zero = omega arith
 lines-short t i (suc n) = omega (arith, length-append (lineAt t i) (linesFrom t (suc i) n), length-at t i, lines-short t (suc i) n)
 
+pub report-short : (t : List ℕ) → length (reportText t) ≤ 5 + 37 * places
+unfolding reportText
+report-short t =
+    chosen (λ (l : List ℕ). length (l ++ linesFrom t 0 places) ≤ 5 + 37 * places) (over t) noticeText []
+    (λ y. omega (arith, length-append noticeText (linesFrom t 0 places), length-notice, lines-short t 0 places)) (λ n. omega (arith, lines-short t 0 places))
+
 -- ---- a line, put or not
 module _ (o o₁ p : List ℕ) (at a b : ℕ) where
   pub head-put : (world : ℕ) → at + 4 ≤ length o → (a, o₁) ≡ put o at (inHex 2 0xb0) → (b, p) ≡ put o₁ a (inHex 2 world) → (b, p) ≡ put o at (headText world)

@@ -131,6 +131,8 @@ pub record Reported (input text : List ℕ) : Type 0 where
   pub rows : List Row
   -- It is the notice a08e exactly where there were more than a million accepted calls, and then a line for each row.
   pub is : text ≡ pick (ltb 1000000 (accepted input)) noticeText [] ++ rowsText rows
+  -- It fits the space that the program has for it.
+  pub fits : length text ≤ 12288
   -- The rows ascend by world and then by answer, so no pair has two.
   pub ascends : Ascends rows
   -- Each is of a possible pair, and its count is how often that occurs among the first million, which is not never.

@@ -20,7 +20,7 @@ use Rattle.frames.specs.Frames.{Machine, first, framed}
 use Rattle.showing.specs.declared.Reply.the-variants.{Told}
 use Rattle.tallies.specs.Rows.{rows, rowOf, answerAt, row-answer}
 use Rattle.tallies.specs.Tally.{most, places, size, nothing, countAt, total, over, placeOf}
-use Rattle.report_text.specs.Report.{reportText}
+use Rattle.report_text.specs.Report.{reportText, report-short}
 use Rattle.counting.specs.Counted.{meaning, Counted, countedOf, counted}
 use Rattle.guarantees.specs.Runs.{Event, Events, next, reply, ran}
 use Rattle.guarantees.specs.Fit.{ran-fit}
@@ -109,6 +109,7 @@ module _ (input : List ℕ) where
       record {
         rows = rowsFrom t 0 places;
         is = rw (any-over input, rows-text t 0 places);
+        fits = omega (arith, report-short t);
         ascends = rows-in-order t 0 places (omega arith);
         counts = rows-each _ t 0 places (λ j a b n. row-counts j (omega arith) n);
         complete = λ world x h.
