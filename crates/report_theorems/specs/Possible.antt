@@ -77,6 +77,9 @@ told-answers p Silent c = few 0 (omega arith)
 told-answers p (No r) c = refused-answers p r
 
 -- ---- an accepted call
+world-some : (w : ℕ) → Calls w → (1 ≤ w) × (w ≤ 3)
+world-some w = ⊎-elim (λ (e : w ≡ normal). (omega arith, omega arith)) (λ (t : Takes w). ⊎-elim (λ (e : w ≡ secure). (omega arith, omega arith)) (λ (e : w ≡ realm). (omega arith, omega arith)) t)
+
 module _ (m : Machine) (fit : Fit m) (core : ℕ) (xs : List ℕ) (on : isOn (power (m .powers) core) ≡ true) where
   caller-calls : Calls (callerOf (stateOf m) core)
   caller-calls = fit-runs m fit core on
@@ -92,10 +95,8 @@ module _ (m : Machine) (fit : Fit m) (core : ℕ) (xs : List ℕ) (on : isOn (po
   unfolding called
   call-possible =
       record {
-        some-world = ⊎-elim (λ (k : callerOf (stateOf m) core ≡ normal). omega arith)
-            (λ (k : Takes (callerOf (stateOf m) core)). ⊎-elim (λ (z : callerOf (stateOf m) core ≡ secure). omega arith) (λ (z : callerOf (stateOf m) core ≡ realm). omega arith) k) caller-calls;
-        last-world = ⊎-elim (λ (k : callerOf (stateOf m) core ≡ normal). omega arith)
-            (λ (k : Takes (callerOf (stateOf m) core)). ⊎-elim (λ (z : callerOf (stateOf m) core ≡ secure). omega arith) (λ (z : callerOf (stateOf m) core ≡ realm). omega arith) k) caller-calls;
+        some-world = world-some _ caller-calls .0;
+        last-world = world-some _ caller-calls .1;
         answer = told-answers (calledBy xs) (answerIn (stateOf m) core xs) count-few;
       }
 

@@ -4,7 +4,7 @@ use mathlib.Core.Bool.{true, false}
 use mathlib.Core.List.{List, [], _∷_, _++_, append-assoc, append-nil}
 use Prim.Native.Nat.{ℕ, zero, suc, _+_}
 use native.Mathlib.Omega.{arith}
-use Rattle.rules.specs.Choice.{pick}
+use Rattle.rules.specs.Choice.{pick, either}
 use Rattle.lines.specs.Lines.{Unbroken}
 use Rattle.lines.specs.Parts.{complete}
 use Rattle.lines.specs.Meant.{meant, meant-none, meant-first, meant-closed, meant-parts}
@@ -12,7 +12,8 @@ use Rattle.lines.specs.Input.{reading}
 use Rattle.frames.specs.Frames.{Machine, first, framed}
 use Rattle.inputs.specs.Cut.{line-complete}
 use Rattle.counting.specs.Counted.{apart, Line, meaning, Counted, countedOf, countedIn, counted}
-use Rattle.report_theorems.specs.Statements.{occurs}
+use Rattle.guarantees.specs.Runs.{Events, next, ran, ran-two}
+use Rattle.report_theorems.specs.Statements.{sinceIn, since, occurs}
 
 -- ---- a line between two runs
 abbrev pub separator : List ℕ
@@ -47,12 +48,12 @@ unfolding counted countedIn
 none-counted = ap (countedIn first) (meant-none meaning)
 
 -- ---- two runs
-module _ (a b : List ℕ) where
-  pub runs-part : counted ((a ++ 10 ∷ []) ++ (48 ∷ 48 ∷ 10 ∷ b)) ≡ counted (a ++ 10 ∷ []) ++ counted b
-  runs-part =
-      ap (λ (l : List ℕ). counted (l ++ (separator ++ 10 ∷ b))) (sym (line-complete a)) ∙ parted (a ++ 10 ∷ []) b ∙ ap (λ (l : List ℕ). counted l ++ counted b) (line-complete a)
+-- Any bytes and a newline, a line of 00 and any bytes count what the two parts count, each alone.
+pub runs-part : (a b : List ℕ) → counted ((a ++ 10 ∷ []) ++ (48 ∷ 48 ∷ 10 ∷ b)) ≡ counted (a ++ 10 ∷ []) ++ counted b
+runs-part a b =
+    ap (λ (l : List ℕ). counted (l ++ (separator ++ 10 ∷ b))) (sym (line-complete a)) ∙ parted (a ++ 10 ∷ []) b ∙ ap (λ (l : List ℕ). counted l ++ counted b) (line-complete a)
 
--- nothing before the first, or behind the last
+-- Nothing is counted before the first or behind the last: a 00 there counts nothing.
 pub first-part : (b : List ℕ) → counted (48 ∷ 48 ∷ 10 ∷ b) ≡ counted b
 unfolding complete
 first-part b = parted [] b ∙ ap (λ (cs : List Counted). cs ++ counted b) none-counted
@@ -73,9 +74,30 @@ unfolding occurs
 occurs-two world x [] ds = omega arith
 occurs-two world x (c ∷ cs) ds = omega (arith, occurs-two world x cs ds)
 
+-- So two runs count the same in either order.
 pub either-order : (a b : List ℕ) (world x : ℕ)
     → occurs world x (counted ((a ++ 10 ∷ []) ++ (48 ∷ 48 ∷ 10 ∷ (b ++ 10 ∷ [])))) ≡ occurs world x (counted ((b ++ 10 ∷ []) ++ (48 ∷ 48 ∷ 10 ∷ (a ++ 10 ∷ []))))
 either-order a b world x =
     let p = runs-part a (b ++ 10 ∷ []) in
     let q = runs-part b (a ++ 10 ∷ []) in
     rw (p, q) (omega (arith, occurs-two world x (counted (a ++ 10 ∷ [])) (counted (b ++ 10 ∷ [])), occurs-two world x (counted (b ++ 10 ∷ [])) (counted (a ++ 10 ∷ []))))
+
+-- ---- a line more
+more-in : (ls : List Line) (l : Line) (es : Events)
+    → countedIn (ran first es) (ls ++ l ∷ []) ≡ countedIn (ran first es) ls ++ pick (l .0) [] (countedOf (ran first (sinceIn es ls)) (l .1 .0) (l .1 .1))
+unfolding countedIn sinceIn pick ran
+more-in [] l es = either (l .0) (λ y. rw y) (λ n. rw n (append-nil (countedOf (ran first es) (l .1 .0) (l .1 .1))))
+more-in ((true, e) ∷ ls) l es = more-in ls l []
+more-in ((false, e) ∷ ls) l es =
+    let m = ran first es in
+    let z : next m e ≡ ran first (es ++ e ∷ []) = sym (ran-two first es (e ∷ [])) in
+    ap (λ (cs : List Counted). countedOf m (e .0) (e .1) ++ cs) (rw z (more-in ls l (es ++ e ∷ [])))
+    ∙ sym (append-assoc (countedOf m (e .0) (e .1)) (countedIn (next m e) ls) (pick (l .0) [] (countedOf (ran first (sinceIn (es ++ e ∷ []) ls)) (l .1 .0) (l .1 .1))))
+
+-- Behind complete lines a line adds what it counts, by the machine that the lines since the last 00 leave; a 00 adds nothing.
+pub line-more : (a l : List ℕ) → Unbroken l
+    → counted (complete a ++ (l ++ 10 ∷ [])) ≡ counted (complete a) ++ pick (apart l) [] (countedOf (ran first (since (complete a))) (reading l .0) (reading l .1))
+unfolding counted meaning ran
+line-more a l u =
+    ap (countedIn first) (meant-parts meaning a (l ++ 10 ∷ []) ∙ ap (λ (ls : List Line). meant meaning (complete a) ++ ls) (meant-first meaning l [] u ∙ ap (λ (ls : List Line). meaning l ∷ ls) (meant-none meaning)))
+    ∙ more-in (meant meaning (complete a)) (meaning l) []

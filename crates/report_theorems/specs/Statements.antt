@@ -52,6 +52,16 @@ runsOf [] = [] ∷ []
 runsOf ((true, e) ∷ ls) = [] ∷ runsOf ls
 runsOf ((false, e) ∷ ls) = joined e (runsOf ls)
 
+-- the lines of the last run, behind those that it has already
+unfoldable pub sinceIn : Events → List Line → Events
+sinceIn es [] = es
+sinceIn es ((true, e) ∷ ls) = sinceIn [] ls
+sinceIn es ((false, e) ∷ ls) = sinceIn (es ++ e ∷ []) ls
+
+-- the lines of an input that stand behind its last 00, or all where it has none
+abbrev pub since : List ℕ → Events
+since input = sinceIn [] (meant meaning input)
+
 -- how many of some answers are those of accepted calls
 unfoldable pub calls : List Reply → ℕ
 calls [] = 0
