@@ -1,10 +1,13 @@
 -- Runs beside each other: each counts what it counts alone.
 use mathlib.Core.Path.{_≡_, refl, sym, ap, _∙_}
-use mathlib.Core.Bool.{true, false}
+use mathlib.Core.Bool.{true, false, _&&_}
 use mathlib.Core.List.{List, [], _∷_, _++_, append-assoc, append-nil}
 use Prim.Native.Nat.{ℕ, zero, suc, _+_}
 use native.Mathlib.Omega.{arith}
-use Rattle.rules.specs.Choice.{pick, either}
+use lib.Dec.{eqb}
+use lib.ListN.{length, getD}
+use borrow.Author.Tests.{eqb-true}
+use Rattle.rules.specs.Choice.{pick, either, left-true, right-true}
 use Rattle.lines.specs.Lines.{Unbroken}
 use Rattle.lines.specs.Parts.{complete}
 use Rattle.lines.specs.Meant.{meant, meant-none, meant-first, meant-closed, meant-parts}
@@ -22,6 +25,24 @@ separator = 48 ∷ 48 ∷ []
 separates : meaning separator ≡ (true, reading separator)
 unfolding meaning apart
 separates = refl
+
+-- A line stands between two runs where it is 00, and nowhere else.
+pub zeros-separate : apart separator ≡ true
+unfolding apart
+zeros-separate = refl
+
+pub zeros-alone : (l : List ℕ) → apart l ≡ true → l ≡ 48 ∷ 48 ∷ []
+unfolding apart
+zeros-alone l y = by-length l (eqb-true _ _ (left-true (eqb (length l) 2) _ y)) (right-true (eqb (length l) 2) _ y)
+  where
+    by-length : (l : List ℕ) → length l ≡ 2 → (eqb (getD l 0 0) 48 && eqb (getD l 1 0) 48) ≡ true → l ≡ 48 ∷ 48 ∷ []
+    by-length [] e h = absurd (omega arith)
+    by-length (a ∷ []) e h = absurd (omega arith)
+    by-length (a ∷ b ∷ []) e h =
+        let p : a ≡ 48 = eqb-true _ _ (left-true (eqb a 48) _ h) in
+        let q : b ≡ 48 = eqb-true _ _ (right-true (eqb a 48) _ h) in
+        rw (p, q)
+    by-length (a ∷ b ∷ c ∷ l) e h = absurd (omega arith)
 
 whole-separator : Unbroken separator
 whole-separator zero h e = omega arith

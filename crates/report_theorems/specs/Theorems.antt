@@ -30,8 +30,8 @@ use Rattle.report_theorems.specs.Possible.{Placed, placed, all-possible}
 use Rattle.report_theorems.specs.Accepted.{line-counted, length-counted}
 use Rattle.report_theorems.specs.Table.{Tells, tells, nothing-sane, total-nothing, over-nothing}
 use Rattle.report_theorems.specs.Text.{rowAt, rowsFrom, rows-text, rows-sum, rows-each, rows-in-order, row-among, row-is}
--- A line more behind any complete lines, and runs beside each other.
-pub use Rattle.report_theorems.specs.Runs.{line-more, runs-part, first-part, last-part, either-order}
+-- Which line stands between two runs, a line more behind any complete lines, and runs beside each other.
+pub use Rattle.report_theorems.specs.Runs.{zeros-separate, zeros-alone, line-more, runs-part, first-part, last-part, either-order}
 
 -- ---- what is counted
 -- Whatever the input, each counted pair is a possible one: so the table has a place for it.
