@@ -22,7 +22,7 @@ abbrev pub reading : List ℕ → Frame × List ℕ
 reading l = parsed l []
 
 -- a line of more than 132 bytes is refused, whatever they are
-long-reading : (l : List ℕ) → 132 < length l → reading l ≡ (Refused NoHex, [])
+pub long-reading : (l : List ℕ) → 132 < length l → reading l ≡ (Refused NoHex, [])
 long-reading l h = sym (other-parsed l [] (Refused NoHex) (long-line l h) refl)
 
 pub reading-blind : Blind reading
