@@ -131,7 +131,7 @@ part-length : (s : List ℕ) (from to : ℕ) → from ≤ to → to ≤ length s
 part-length s from to g h = length-take-le (to - from) (drop from s) (rw length-drop (omega arith))
 
 -- a newline is no digit
-digits-no-newline : (l : List ℕ) (k : ℕ) → allDigits l ≡ true → k < length l → getD l k 0 ≡ 10 → ⊥
+pub digits-no-newline : (l : List ℕ) (k : ℕ) → allDigits l ≡ true → k < length l → getD l k 0 ≡ 10 → ⊥
 unfolding allDigits digitOf pick
 digits-no-newline l k d h e =
     let y : digitAt l k ≡ true = all-at (digitAt l) 0 (length l) k d (omega arith) (omega arith) in

@@ -19,6 +19,7 @@ use Rattle.registers.specs.declared.Shown.{Shown}
 use Rattle.showing.specs.declared.Reply.{Reply}
 use Rattle.showing.specs.declared.Reply.the-variants as Reply
 use Rattle.frames.specs.Frames.{Machine, framed}
+use Rattle.answering.specs.Answer.{numbers-idle}
 use Rattle.sheets.specs.Sheet.{Sheet, sheet, counting, notedOn}
 use Rattle.mending.specs.Mended.{later, statusOf, judged, meaning, Kept, afterLine}
 
@@ -52,18 +53,9 @@ pub ruleset takes = (takes-line, takes-none)
 
 -- ---- what is not looked at
 -- the numbers beside a frame that is no call
-framed-idle : (m : Machine) (f : Frame) (ys : List ℕ) → framed m f (pick (isCall f) ys []) ≡ framed m f ys
-unfolding framed pick
-framed-idle m (Frame.Site base pages cores) ys = refl
-framed-idle m (Frame.Entry first last kind number) ys = refl
-framed-idle m (Frame.Name first count to) ys = refl
-framed-idle m (Frame.Call core) ys = refl
-framed-idle m (Frame.Arrival core) ys = refl
-framed-idle m (Frame.Refused why) ys = refl
-
 judged-idle : (m : Machine) (f : Frame) (ys : List ℕ) → judged m f (pick (isCall f) ys []) ≡ judged m f ys
 unfolding judged
-judged-idle m f ys = rw (framed-idle m f ys)
+judged-idle m f ys = rw (numbers-idle m f ys)
 
 pub line-idle : (k : Kept) (f : Frame) (ys l : List ℕ) → afterLine k ((f, pick (isCall f) ys []), l) ≡ afterLine k ((f, ys), l)
 unfolding afterLine
