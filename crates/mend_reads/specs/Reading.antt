@@ -26,7 +26,7 @@ use Rattle.inputs.specs.Waiting.{heard, front, taken}
 use Rattle.inputs.specs.Carried.{carried}
 use Rattle.inputs.specs.Loop as Loop
 use Rattle.sheets.specs.Sheet.{Sheet}
-use Rattle.mending.specs.Mended.{meaning, Kept, afterLine}
+use Rattle.mending.specs.Judged.{meaning, Kept, afterLine}
 use Rattle.mending.specs.Laws.{meaning-blind, line-idle, line-cut}
 
 -- ---- the loop of a feed

@@ -4,7 +4,7 @@ ghost use Rattle.frames.specs.Frames.{Machine, onMachine};
 ghost use Rattle.inputs.specs.Feeding.{feeding};
 ghost use Rattle.inputs.specs.Waiting.{front, heard, taken};
 ghost use Rattle.sheets.specs.Sheet.{Sheet, onSheet};
-ghost use Rattle.mending.specs.Mended.{meaning, afterLine};
+ghost use Rattle.mending.specs.Judged.{meaning, afterLine};
 use cores::Powers;
 use cores::Turns;
 use ledger::Ledger;

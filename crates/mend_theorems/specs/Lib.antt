@@ -1,3 +1,4 @@
+pub mod Mended
 pub mod Verdicts
 pub mod Written
 pub mod Theorems

@@ -24,7 +24,8 @@ use Rattle.answering.specs.Answer.{textOf}
 use Rattle.inputs.specs.Folds.{folded, left}
 use Rattle.inputs.specs.Run.{answers, printed, turned, leftBy}
 use Rattle.sheets.specs.Sheet.{most, lineText, droppedText, tooMany, length-line, length-dropped, length-too-many}
-use Rattle.mending.specs.Mended.{later, statusOf, judged, judgedLine, verdicts, keptBy, droppedBy, keptText, noticesText, mendedText, mended}
+use Rattle.mending.specs.Judged.{later, statusOf, judged, judgedLine}
+use Rattle.mend_theorems.specs.Mended.{verdicts, keptBy, droppedBy, keptText, noticesText, mendedText, mended}
 use Rattle.mend_theorems.specs.Verdicts.{keeps, tells, judged-other, accepts, drops}
 use Rattle.mend_theorems.specs.Written.{keptOf, droppedOf, length-verdicts}
 

@@ -20,7 +20,7 @@ use Rattle.showing.specs.declared.Reply.{Reply}
 use Rattle.showing.specs.declared.Reply.the-variants as Reply
 use Rattle.frames.specs.Frames.{Machine, framed}
 use Rattle.frames.specs.Stays.{refused-same}
-use Rattle.mending.specs.Mended.{later, statusOf, judged, judgedLine}
+use Rattle.mending.specs.Judged.{later, statusOf, judged, judgedLine}
 
 -- ---- lines that can be kept: from 10 to 24 bytes, with no newline
 pub record Keeps (l : List ℕ) : Type 0 where

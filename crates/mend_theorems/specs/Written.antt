@@ -17,7 +17,8 @@ use Rattle.lines.specs.Input.{reading}
 use Rattle.frames.specs.Frames.{Machine, first}
 use Rattle.inputs.specs.Folds.{folded, left}
 use Rattle.sheets.specs.Sheet.{Sheet, sheet, most, came, lineText, droppedText, tooMany, counting, keptOn, droppedOn, notedOn, finished, length-line, length-dropped, length-too-many}
-use Rattle.mending.specs.Mended.{judgedLine, verdicts, keptBy, droppedBy, keptText, noticesText, mendedText, mended, meaning, Kept, setDown, afterLine}
+use Rattle.mending.specs.Judged.{judgedLine, meaning, Kept, afterLine}
+use Rattle.mend_theorems.specs.Mended.{verdicts, keptBy, droppedBy, keptText, noticesText, mendedText, mended}
 use Rattle.mending.specs.Laws.{line-cut}
 use Rattle.mend_theorems.specs.Verdicts.{Keeps, keeps}
 

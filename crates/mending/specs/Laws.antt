@@ -1,4 +1,4 @@
--- How the code's branches meet the definitions of Mended, and that no more than 133 bytes of a line are asked for.
+-- How the code's branches meet the definitions of Judged, and that no more than 133 bytes of a line are asked for.
 use mathlib.Core.Path.{_≡_, refl, sym, ap, _∙_}
 use mathlib.Core.Bool.{Bool, true, false}
 use mathlib.Core.List.{List, []}
@@ -21,7 +21,7 @@ use Rattle.showing.specs.declared.Reply.the-variants as Reply
 use Rattle.frames.specs.Frames.{Machine, framed}
 use Rattle.answering.specs.Answer.{numbers-idle}
 use Rattle.sheets.specs.Sheet.{Sheet, sheet, counting, notedOn}
-use Rattle.mending.specs.Mended.{later, statusOf, judged, meaning, Kept, afterLine}
+use Rattle.mending.specs.Judged.{later, statusOf, judged, meaning, Kept, afterLine}
 
 -- ---- a frame and its verdict
 pub status-called : (r : Reply) (core world : ℕ) (x : Shown) → r ≡ Reply.Called core world x → 0 ≡ statusOf r

@@ -1,2 +1,2 @@
-pub mod Mended
+pub mod Judged
 pub mod Laws

@@ -2,7 +2,7 @@
 ghost use mathlib.Core.Path.{_≡_};
 ghost use Rattle.frames.specs.Frames.{Machine, onMachine};
 ghost use Rattle.sheets.specs.Sheet.{Sheet, onSheet};
-ghost use Rattle.mending.specs.Mended.{later, statusOf, judged, afterLine};
+ghost use Rattle.mending.specs.Judged.{later, statusOf, judged, afterLine};
 use cores::Powers;
 use cores::Turns;
 use ledger::Ledger;

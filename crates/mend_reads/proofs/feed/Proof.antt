@@ -1,7 +1,7 @@
 -- Each pass takes one line more, and what is left to be taken stays the same.
 use borrow.Author.Needs.{needs}
 use Rattle.mend_reads.specs.Reading.{stops, goes-on}
-use Rattle.mending.specs.Mended.{meaning, afterLine}
+use Rattle.mending.specs.Judged.{meaning, afterLine}
 use Rattle.sheets.specs.Sheet.{sheet}
 use Rattle.inputs.specs.Feeding.{feeding}
 use Rattle.lines.specs.Input.{insides}

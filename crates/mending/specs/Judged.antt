@@ -1,19 +1,17 @@
--- What mending makes of a set-up file: a verdict on each line, taking the kept ones before it as given; the kept lines, and the numbers of the dropped ones.
+-- What mending makes of a line: a verdict, by the machine of the kept lines before it, and the line or a notice set down.
 use mathlib.Core.Bool.{Bool, true, false}
-use mathlib.Core.List.{List, [], _∷_, _++_}
-use Prim.Native.Nat.{ℕ, _+_}
-use lib.Dec.{eqb, ltb}
-use lib.ListN.{length, take}
+use mathlib.Core.List.{List}
+use Prim.Native.Nat.{ℕ}
+use lib.ListN.{take}
 use Rattle.rules.specs.Choice.{pick}
 use Rattle.parsing.specs.Frame.{statusByte}
 use Rattle.parsing.specs.declared.Frame.{Frame}
 use Rattle.parsing.specs.declared.Frame.the-variants as Frame
-use Rattle.lines.specs.Lines.{linesOf}
 use Rattle.lines.specs.Input.{reading}
 use Rattle.showing.specs.declared.Reply.{Reply}
 use Rattle.showing.specs.declared.Reply.the-variants as Reply
-use Rattle.frames.specs.Frames.{Machine, first, framed}
-use Rattle.sheets.specs.Sheet.{Sheet, sheet, most, lineText, droppedText, tooMany, counting, notedOn}
+use Rattle.frames.specs.Frames.{Machine, framed}
+use Rattle.sheets.specs.Sheet.{Sheet, sheet, counting, notedOn}
 
 -- ---- the verdict on a line
 -- a frame that set-up has no use for: a call or an arrival
@@ -36,42 +34,6 @@ judged m f xs = pick (later f) (m, 0x73) (framed m f xs .0, statusOf (framed m f
 
 abbrev pub judgedLine : Machine → List ℕ → Machine × ℕ
 judgedLine m l = judged m (reading l .0) (reading l .1)
-
--- one for each line
-unfoldable pub verdicts : Machine → List (List ℕ) → List ℕ
-verdicts m [] = []
-verdicts m (l ∷ ls) = judgedLine m l .1 ∷ verdicts (judgedLine m l .0) ls
-
--- ---- what comes of verdicts
--- the lines with status 0 are kept
-unfoldable pub keptBy : List ℕ → List (List ℕ) → List (List ℕ)
-keptBy [] ls = []
-keptBy (v ∷ vs) [] = []
-keptBy (v ∷ vs) (l ∷ ls) = pick (eqb v 0) (l ∷ keptBy vs ls) (keptBy vs ls)
-
--- the others are dropped: their numbers, from n on, and statuses
-unfoldable pub droppedBy : ℕ → List ℕ → List (ℕ × ℕ)
-droppedBy n [] = []
-droppedBy n (v ∷ vs) = pick (eqb v 0) (droppedBy (n + 1) vs) ((n, v) ∷ droppedBy (n + 1) vs)
-
--- ---- as text
-unfoldable pub keptText : List (List ℕ) → List ℕ
-keptText [] = []
-keptText (l ∷ ls) = lineText l ++ keptText ls
-
-unfoldable pub noticesText : List (ℕ × ℕ) → List ℕ
-noticesText [] = []
-noticesText (d ∷ ds) = droppedText (d .0) (d .1) ++ noticesText ds
-
--- of lines: those that are kept, and a notice for each that is dropped, numbered from 1; one notice alone for more than 512
-unfoldable pub mendedText : List (List ℕ) → List ℕ
-mendedText ls =
-    pick (ltb most (length ls)) tooMany
-    (keptText (keptBy (verdicts first ls) ls) ++ noticesText (droppedBy 1 (verdicts first ls)))
-
--- of an input
-abbrev pub mended : List ℕ → List ℕ
-mended input = mendedText (linesOf input)
 
 -- ---- line by line
 -- what a line means: the frame that it is read as, and its bytes, as many as that can depend on
