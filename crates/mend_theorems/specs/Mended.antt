@@ -9,10 +9,15 @@ use Rattle.frames.specs.Frames.{Machine, first}
 use Rattle.sheets.specs.Sheet.{most, lineText, droppedText, tooMany}
 use Rattle.mending.specs.Judged.{judgedLine}
 
--- ---- the verdicts, one for each line
+-- ---- the verdicts
+-- the machine that a line leaves for the next one
+abbrev pub onward : Machine → List ℕ → Machine
+onward m l = judgedLine m l .0
+
+-- one for each line
 unfoldable pub verdicts : Machine → List (List ℕ) → List ℕ
 verdicts m [] = []
-verdicts m (l ∷ ls) = judgedLine m l .1 ∷ verdicts (judgedLine m l .0) ls
+verdicts m (l ∷ ls) = judgedLine m l .1 ∷ verdicts (onward m l) ls
 
 -- ---- what comes of verdicts
 -- the lines with status 0 are kept

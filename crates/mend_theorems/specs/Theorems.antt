@@ -25,7 +25,7 @@ use Rattle.inputs.specs.Folds.{folded, left}
 use Rattle.inputs.specs.Run.{answers, printed, turned, leftBy}
 use Rattle.sheets.specs.Sheet.{most, lineText, droppedText, tooMany, length-line, length-dropped, length-too-many}
 use Rattle.mending.specs.Judged.{later, statusOf, judged, judgedLine}
-use Rattle.mend_theorems.specs.Mended.{verdicts, keptBy, droppedBy, keptText, noticesText, mendedText, mended}
+use Rattle.mend_theorems.specs.Mended.{onward, verdicts, keptBy, droppedBy, keptText, noticesText, mendedText, mended}
 use Rattle.mend_theorems.specs.Verdicts.{keeps, tells, judged-other, accepts, drops}
 use Rattle.mend_theorems.specs.Written.{keptOf, droppedOf, length-verdicts}
 
@@ -35,7 +35,7 @@ pub lines-kept : (ls : List (List ℕ)) (m : Machine) → linesOf (keptText (kep
 unfolding verdicts keptBy keptText lineText linesOf
 lines-kept [] m = refl
 lines-kept (l ∷ ls) m =
-    let m′ = judgedLine m l .0 in
+    let m′ = onward m l in
     chosen (λ (ks : List (List ℕ)). linesOf (keptText ks) ≡ ks) (eqb (judgedLine m l .1) 0) _ _
     (λ y.
     ap linesOf (append-assoc l (10 ∷ []) (keptText (keptOf m′ ls))) ∙ lines-first l (keptText (keptOf m′ ls)) (keeps m l (eqb-true _ _ y) .unbroken)
@@ -52,7 +52,7 @@ answers-kept : (ls : List (List ℕ)) (m : Machine) → answers m (map reading (
 unfolding verdicts keptBy answers acceptances
 answers-kept [] m = refl
 answers-kept (l ∷ ls) m =
-    let m′ = judgedLine m l .0 in
+    let m′ = onward m l in
     chosen (λ (ks : List (List ℕ)). answers m (map reading ks) ≡ acceptances (length ks)) (eqb (judgedLine m l .1) 0) _ _
     (λ y.
     let a = accepts m (reading l .0) (reading l .1) (eqb-true _ _ y) in
@@ -70,19 +70,19 @@ kept-accepted ls = ap (λ (ks : List (List ℕ)). answers first (map reading ks)
 -- the machine after lines
 unfoldable reached : Machine → List (List ℕ) → Machine
 reached m [] = m
-reached m (l ∷ ls) = reached (judgedLine m l .0) ls
+reached m (l ∷ ls) = reached (onward m l) ls
 
 verdicts-two : (ls ms : List (List ℕ)) (m : Machine) → verdicts m (ls ++ ms) ≡ verdicts m ls ++ verdicts (reached m ls) ms
 unfolding verdicts reached
 verdicts-two [] ms m = refl
-verdicts-two (l ∷ ls) ms m = ap (λ (vs : List ℕ). judgedLine m l .1 ∷ vs) (verdicts-two ls ms (judgedLine m l .0))
+verdicts-two (l ∷ ls) ms m = ap (λ (vs : List ℕ). judgedLine m l .1 ∷ vs) (verdicts-two ls ms (onward m l))
 
 -- it is that of the kept ones alone
 turned-kept : (ls : List (List ℕ)) (m : Machine) → folded turned m (map reading (keptOf m ls)) ≡ reached m ls
 unfolding verdicts keptBy folded reached
 turned-kept [] m = refl
 turned-kept (l ∷ ls) m =
-    let m′ = judgedLine m l .0 in
+    let m′ = onward m l in
     chosen (λ (ks : List (List ℕ)). folded turned m (map reading ks) ≡ reached m′ ls) (eqb (judgedLine m l .1) 0) _ _
     (λ y. let a = accepts m (reading l .0) (reading l .1) (eqb-true _ _ y) in ap (λ (x : Machine). folded turned x (map reading (keptOf m′ ls))) (sym (a .leaves)) ∙ turned-kept ls m′)
     (λ n.
@@ -109,7 +109,7 @@ module _ (before : List (List ℕ)) (l : List ℕ) (behind : List (List ℕ)) wh
   unfolding verdicts
   verdict-so =
       ap (λ (vs : List ℕ). getD vs (length before) 0) (verdicts-two before (l ∷ behind) first)
-      ∙ getD-at (verdicts first before) (judgedLine (reached first before) l .1) (verdicts (judgedLine (reached first before) l .0) behind) 0 (length before) (length-verdicts before first)
+      ∙ getD-at (verdicts first before) (judgedLine (reached first before) l .1) (verdicts (onward (reached first before) l) behind) 0 (length before) (length-verdicts before first)
       ∙ rw (left-kept before)
 
   -- A call or an arrival is dropped with 73.
@@ -140,7 +140,7 @@ pub sorted : (ls : List (List ℕ)) (m : Machine) (n : ℕ) → Sorted n ls (kep
 unfolding verdicts keptBy droppedBy pick
 sorted [] m n = none
 sorted (l ∷ ls) m n =
-    let m′ = judgedLine m l .0 in
+    let m′ = onward m l in
     let v = judgedLine m l .1 in
     let ks = keptOf m′ ls in
     let ds = droppedOf m′ (n + 1) ls in
@@ -152,7 +152,7 @@ again : (ls : List (List ℕ)) (m : Machine) (n : ℕ) → (keptOf m (keptOf m l
 unfolding verdicts keptBy droppedBy
 again [] m n = (refl, refl)
 again (l ∷ ls) m n =
-    let m′ = judgedLine m l .0 in
+    let m′ = onward m l in
     chosen (λ (ks : List (List ℕ)). (keptOf m ks ≡ ks) × (droppedOf m n ks ≡ [])) (eqb (judgedLine m l .1) 0) _ _
     (λ y.
     let i = again ls m′ (n + 1) in
@@ -166,7 +166,7 @@ kept-fewer : (ls : List (List ℕ)) (m : Machine) → length (keptOf m ls) ≤ l
 unfolding verdicts keptBy
 kept-fewer [] m = omega arith
 kept-fewer (l ∷ ls) m =
-    let i = kept-fewer ls (judgedLine m l .0) in
+    let i = kept-fewer ls (onward m l) in
     chosen (λ (ks : List (List ℕ)). length ks ≤ suc (length ls)) (eqb (judgedLine m l .1) 0) _ _ (λ y. omega arith) (λ n. omega arith)
 
 -- ---- the text
@@ -195,7 +195,7 @@ kept-long : (ls : List (List ℕ)) (m : Machine) → (length (keptText (keptOf m
 unfolding verdicts keptBy keptText
 kept-long [] m = inl refl
 kept-long (l ∷ ls) m =
-    let m′ = judgedLine m l .0 in
+    let m′ = onward m l in
     chosen (λ (ks : List (List ℕ)). (length (keptText ks) ≡ 0) ⊎ (11 ≤ length (keptText ks))) (eqb (judgedLine m l .1) 0) _ _
     (λ y. inr (omega (arith, length-append (lineText l) (keptText (keptOf m′ ls)), length-line l, keeps m l (eqb-true _ _ y) .low)))
     (λ n. kept-long ls m′)

@@ -18,7 +18,7 @@ use Rattle.frames.specs.Frames.{Machine, first}
 use Rattle.inputs.specs.Folds.{folded, left}
 use Rattle.sheets.specs.Sheet.{Sheet, sheet, most, came, lineText, droppedText, tooMany, counting, keptOn, droppedOn, notedOn, finished, length-line, length-dropped, length-too-many}
 use Rattle.mending.specs.Judged.{judgedLine, meaning, Kept, afterLine}
-use Rattle.mend_theorems.specs.Mended.{verdicts, keptBy, droppedBy, keptText, noticesText, mendedText, mended}
+use Rattle.mend_theorems.specs.Mended.{onward, verdicts, keptBy, droppedBy, keptText, noticesText, mendedText, mended}
 use Rattle.mending.specs.Laws.{line-cut}
 use Rattle.mend_theorems.specs.Verdicts.{Keeps, keeps}
 
@@ -37,9 +37,9 @@ kept-short (l ∷ ls) m =
     chosen (λ (ks : List (List ℕ)). length (keptText ks) ≤ 25 * suc (length ls)) (eqb (judgedLine m l .1) 0) _ _
     (λ y.
     let k = keeps m l (eqb-true _ _ y) in
-    let r = kept-short ls (judgedLine m l .0) in
-    omega (arith, length-append (lineText l) (keptText (keptOf (judgedLine m l .0) ls)), length-line l, k .high))
-    (λ n. omega (arith, kept-short ls (judgedLine m l .0)))
+    let r = kept-short ls (onward m l) in
+    omega (arith, length-append (lineText l) (keptText (keptOf (onward m l) ls)), length-line l, k .high))
+    (λ n. omega (arith, kept-short ls (onward m l)))
 
 notices-short : (vs : List ℕ) (n : ℕ) → length (noticesText (droppedBy n vs)) ≤ 9 * length vs
 unfolding droppedBy noticesText
@@ -52,7 +52,7 @@ notices-short (v ∷ vs) n =
 pub length-verdicts : (ls : List (List ℕ)) (m : Machine) → length (verdicts m ls) ≡ length ls
 unfolding verdicts
 length-verdicts [] m = refl
-length-verdicts (l ∷ ls) m = ap suc (length-verdicts ls (judgedLine m l .0))
+length-verdicts (l ∷ ls) m = ap suc (length-verdicts ls (onward m l))
 
 -- ---- a text laid behind another, from the front of the space
 put-on : (o t v : List ℕ) → length t + length v ≤ length o → put (laid o 0 t) (length t) v ≡ (length (t ++ v), laid o 0 (t ++ v))
@@ -102,7 +102,7 @@ module _ (k₀ d₀ : List ℕ) (roomy : length k₀ ≡ 17408) (room : length d
       let z : n ≡ n + 0 = omega arith in
       rw (append-nil t, append-nil u, ← z)
   holds (l ∷ ls) m n t u few short shorter =
-      let m′ = judgedLine m l .0 in
+      let m′ = onward m l in
       let v = judgedLine m l .1 in
       let z : n + 1 + length ls ≡ n + suc (length ls) = omega arith in
       either (eqb v 0)
