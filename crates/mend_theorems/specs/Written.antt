@@ -20,6 +20,7 @@ use Rattle.sheets.specs.Sheet.{Sheet, sheet, most, came, lineText, droppedText,
 use Rattle.mending.specs.Judged.{judgedLine, meaning, Kept, afterLine}
 use Rattle.mend_theorems.specs.Mended.{onward, verdicts, keptBy, droppedBy, keptText, noticesText, mendedText, mended}
 use Rattle.mending.specs.Laws.{line-cut}
+use Rattle.mend_reads.specs.Reading.{Mends}
 use Rattle.mend_theorems.specs.Verdicts.{Keeps, keeps}
 
 -- the text of the kept lines, and that of the notices numbered from n on
@@ -208,3 +209,7 @@ module _ (k₀ d₀ : List ℕ) (roomy : length k₀ ≡ 17408) (room : length d
   written input =
       let ls = linesOf input in
       either (ltb 512 (length ls)) (λ y. many-written ls (ltb-true _ _ y) _ refl) (λ n. few-written ls (ltb-false _ _ n) _ refl)
+
+  -- So whatever `mend` has read, what `tell` then hands to the writer is what mending makes of it.
+  pub any-told : (s : Sheet) (r : Mends (sheet k₀ d₀ (0 ∷ 0 ∷ 0 ∷ [])) s) → Writes (finished (s .kept) (s .dropped) (s .ends)) (mended (r .input))
+  any-told s r = rw (r .is) (written (r .input))
