@@ -13,7 +13,6 @@ use Rattle.rules.specs.Choice.{pick, pick-yes, pick-no, by, chosen, either}
 use Rattle.hex.specs.Hex.{inHex}
 use Rattle.parsing.specs.Frame.{statusByte}
 use Rattle.parsing.specs.declared.Status.the-variants as Status
-use Rattle.parsing.specs.declared.Frame.{Frame}
 use Rattle.lines.specs.Lines.{linesOf, lines-first}
 use Rattle.lines.specs.Meant.{meant}
 use Rattle.lines.specs.Input.{reading}

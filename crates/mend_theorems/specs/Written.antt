@@ -3,7 +3,6 @@ use mathlib.Core.Path.{_≡_, refl, sym, ap, _∙_}
 use mathlib.Core.Bool.{Bool, true, false}
 use mathlib.Core.List.{List, [], _∷_, _++_, map, append-nil, append-assoc}
 use Prim.Native.Nat.{ℕ, suc, _+_, _*_, _≤_, _<_}
-use native.Mathlib.Numerals.{add-one}
 use native.Mathlib.Omega.{arith}
 use lib.Dec.{eqb, ltb, leb}
 use lib.ListN.{length, getD, take, set, length-append, length-set}
@@ -13,15 +12,14 @@ use Rattle.rules.specs.Choice.{pick, pick-yes, pick-no, chosen, either}
 use Rattle.tools.specs.Laid.{laid, put, put-fits, put-take, laid-append, length-laid}
 use Rattle.lines.specs.Lines.{linesOf}
 use Rattle.lines.specs.Meant.{meant}
-use Rattle.lines.specs.Input.{reading}
 use Rattle.frames.specs.Frames.{Machine, first}
 use Rattle.inputs.specs.Folds.{folded, left}
-use Rattle.sheets.specs.Sheet.{Sheet, sheet, most, came, lineText, droppedText, tooMany, counting, keptOn, droppedOn, notedOn, finished, length-line, length-dropped, length-too-many}
+use Rattle.sheets.specs.Sheet.{Sheet, sheet, came, lineText, droppedText, tooMany, counting, keptOn, droppedOn, notedOn, finished, length-line, length-dropped, length-too-many}
 use Rattle.mending.specs.Judged.{judgedLine, meaning, Kept, afterLine}
 use Rattle.mend_theorems.specs.Mended.{onward, verdicts, keptBy, droppedBy, keptText, noticesText, mendedText, mended}
 use Rattle.mending.specs.Laws.{line-cut}
 use Rattle.mend_reads.specs.Reading.{Mends}
-use Rattle.mend_theorems.specs.Verdicts.{Keeps, keeps}
+use Rattle.mend_theorems.specs.Verdicts.{keeps}
 
 -- the text of the kept lines, and that of the notices numbered from n on
 abbrev pub keptOf : Machine → List (List ℕ) → List (List ℕ)

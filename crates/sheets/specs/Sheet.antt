@@ -1,5 +1,5 @@
 -- What mending sets down: the text of the kept lines, that of the dropped ones, and three numbers: how many lines came, and where each text ends.
-use mathlib.Core.Path.{_≡_, refl, sym, ap, _∙_}
+use mathlib.Core.Path.{_≡_, refl, _∙_}
 use mathlib.Core.Bool.{Bool, true, false}
 use mathlib.Core.List.{List, [], _∷_, _++_}
 use Prim.Native.Nat.{ℕ, suc, _+_, _-_, _≤_, _<_}
@@ -15,7 +15,7 @@ use Rattle.rules.specs.Lent.{Lent}
 use Rattle.rules.specs.Choice.{pick, picked, passed}
 use Rattle.tools.specs.Laid.{laid, put, put-fits, put-not}
 use Rattle.hex.specs.Hex.{inHex, length-hex}
-use Rattle.hex_write.specs.Put.{put-then, put-three, was-put}
+use Rattle.hex_write.specs.Put.{put-then, put-three}
 
 -- at most so many lines are mended
 abbrev pub most : ℕ
