@@ -11,8 +11,8 @@ use Rattle.lines.specs.Parts.{complete, unfinished}
 use Rattle.inputs.specs.Cut.{unfinished-so}
 use Rattle.inputs.specs.Folds.{left}
 use Rattle.inputs.specs.Reads.{joined, leftOver, all-left}
-use Rattle.inputs.specs.Waiting.{ended, heard}
-use Rattle.inputs.specs.Carried.{Carried, carried-end, heard-more, heard-end}
+use Rattle.inputs.specs.Waiting.{ended, heard, front, taken}
+use Rattle.inputs.specs.Carried.{Carried, carried, carried-end, heard-more, heard-end}
 
 module _ {S A : Type 0} (step : S → A → S) (f : List ℕ → A) where
   -- what an input leaves
@@ -63,3 +63,12 @@ module _ {S A : Type 0} (step : S → A → S) (f : List ℕ → A) where
           is = carried-end step f a (take kept s) a′ kept′ s′ (rw same (v .line)) c ∙ ap (left step f a) same ∙ sym (v .goes [])
               ∙ ap (leftOver step f a₀ []) (append-nil (v .reads)) ∙ all-left step f blind a₀ (v .reads);
         }
+
+  -- the same, where what was read is taken as a read calls for
+  module _ (a₀ a : S) (s₀ : List ℕ) (kept : ℕ) (v : Serving a₀ a s₀ kept) (s : List ℕ) (n : ℕ) (same : take kept s ≡ take kept s₀)
+      (a′ : S) (kept′ : ℕ) (s′ : List ℕ) (e : (a′, front kept′ s′) ≡ taken step f a (heard s kept n)) where
+    pub taken-on : kept ≤ n → (n ≡ kept → ⊥) → Serving a₀ a′ s′ kept′
+    taken-on = serving-on a₀ a s₀ kept v s n same a′ kept′ s′ (carried step f a (heard s kept n) a′ kept′ s′ e)
+
+    pub taken-all : Blind f → n ≡ kept → 133 < length s → Ran a₀ a′
+    taken-all = served-all a₀ a s₀ kept v s n same a′ kept′ s′ (carried step f a (heard s kept n) a′ kept′ s′ e)

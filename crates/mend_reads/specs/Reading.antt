@@ -4,7 +4,7 @@ use mathlib.Core.Bool.{Bool, true}
 use mathlib.Core.List.{List}
 use Prim.Native.Nat.{ℕ, _-_, _≤_}
 use native.Mathlib.Omega.{arith}
-use lib.ListN.{length, take}
+use lib.ListN.{length}
 use Rattle.lines.specs.Lines.{lineAt, part, nextOf, endOf}
 use Rattle.lines.specs.Input.{reading, reading-of, next-found}
 use Rattle.lines.specs.Front.{fronted}
@@ -23,11 +23,10 @@ use Rattle.frames.specs.Frames.{Machine, machine, first}
 use Rattle.inputs.specs.Folds.{left}
 use Rattle.inputs.specs.Feeding.{feeding, feeding-end, feeding-stop, feeding-line, feeds}
 use Rattle.inputs.specs.Waiting.{heard, front, taken}
-use Rattle.inputs.specs.Carried.{carried}
 use Rattle.inputs.specs.Loop as Loop
 use Rattle.sheets.specs.Sheet.{Sheet}
 use Rattle.mending.specs.Judged.{meaning, Kept, afterLine}
-use Rattle.mending.specs.Laws.{meaning-blind, line-idle, line-cut}
+use Rattle.mending.specs.Laws.{line-idle, line-cut}
 
 -- ---- the loop of a feed
 module _ (s : List ℕ) (k : Kept) (at : ℕ) (o : ℕ × Kept) (inv : feeding afterLine meaning k at s ≡ o) where
@@ -60,23 +59,9 @@ read-taken = feeds afterLine meaning
 abbrev pub Serving : Kept → Kept → List ℕ → ℕ → Type 0
 Serving k₀ k s kept = Loop.Serving afterLine meaning k₀ k s kept
 
-pub serving-none : (k : Kept) (s : List ℕ) → Serving k k s 0
-serving-none = Loop.serving-none afterLine meaning
-
 -- what is kept after an input
 abbrev pub Ran : Kept → Kept → Type 0
 Ran k k′ = Loop.Ran afterLine meaning k k′
-
--- one read more, which left what waits where it was
-module _ (k₀ k : Kept) (s₀ : List ℕ) (kept : ℕ) (v : Serving k₀ k s₀ kept) (s : List ℕ) (n : ℕ) (same : take kept s ≡ take kept s₀)
-    (k′ : Kept) (kept′ : ℕ) (s′ : List ℕ) (e : (k′, front kept′ s′) ≡ taken afterLine meaning k (heard s kept n)) where
-  -- and brought something
-  pub serving-on : kept ≤ n → (n ≡ kept → ⊥) → Serving k₀ k′ s′ kept′
-  serving-on = Loop.serving-on afterLine meaning k₀ k s₀ kept v s n same k′ kept′ s′ (carried afterLine meaning k (heard s kept n) k′ kept′ s′ e)
-
-  -- or nothing: the input has ended
-  pub served-all : n ≡ kept → 65536 ≡ length s → Ran k₀ k′
-  served-all z h = Loop.served-all afterLine meaning k₀ k s₀ kept v s n same k′ kept′ s′ (carried afterLine meaning k (heard s kept n) k′ kept′ s′ e) meaning-blind z (omega arith)
 
 -- ---- from tables as they are before the first frame
 -- a sheet with what an input comes to

@@ -1,6 +1,9 @@
 -- Each read goes on where the last one ended.
 use borrow.Author.Needs.{needs}
-use Rattle.mend_reads.specs.Reading.{Serving, serving-none, serving-on, served-all}
+use Rattle.inputs.specs.Loop.{serving-none, taken-on, taken-all}
+use Rattle.mending.specs.Judged.{meaning, afterLine}
+use Rattle.mending.specs.Laws.{meaning-blind}
+use Rattle.mend_reads.specs.Reading.{Serving}
 use Rattle.sheets.specs.Sheet.{sheet}
 use Rattle.frames.specs.Frames.{machine}
 use Rattle.rules.specs.Choice.{yes-or-no}
@@ -17,7 +20,7 @@ abbrev μ-loop : tie.MeasureT-loop
     left
 
 loop-holds : tie.Need-loop-holds Inv-loop μ-loop
-loop-holds c = search serving-none
+loop-holds c = serving-none afterLine meaning _ _
 
 fill-requires : tie.Need-fill-requires Inv-loop μ-loop
 fill-requires c κs = search needs
@@ -29,7 +32,7 @@ returns : tie.Need-returns Inv-loop μ-loop
 returns c y =
     let v = c .before .before .before .before .before .before .before .before .before .before .before .before .before .before .before .before .before .loop .inv in
     let f = c .before .before .before .before .before .before .before .before .before .before .before .before .before .before .fill in
-    served-all _ _ _ _ v _ _ (f .ensures .same) _ _ _ (c .before .take-read .ensures) (search needs) (search needs)
+    taken-all afterLine meaning _ _ _ _ v _ _ (f .ensures .same) _ _ _ (c .before .take-read .ensures) meaning-blind (search needs) (search needs)
 
 sub-left : tie.Need-sub-left Inv-loop μ-loop
 sub-left c = search needs
@@ -41,7 +44,7 @@ loop-again : tie.Need-loop-again Inv-loop μ-loop
 loop-again c =
     let v = c .before .before .before .before .before .before .before .before .before .before .before .before .before .before .before .before .before .loop .inv in
     let f = c .before .before .before .before .before .before .before .before .before .before .before .before .before .before .fill in
-    serving-on _ _ _ _ v _ _ (f .ensures .same) _ _ _ (c .before .take-read .ensures) (f .ensures .more) (search needs)
+    taken-on afterLine meaning _ _ _ _ v _ _ (f .ensures .same) _ _ _ (c .before .take-read .ensures) (f .ensures .more) (search needs)
 
 returns-2 : tie.Need-returns-2 Inv-loop μ-loop
 returns-2 c y = absurd (yes-or-no _ y refl)
