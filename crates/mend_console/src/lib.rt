@@ -63,7 +63,7 @@ fn serve(
     false
 }
 
-// Sets down the lines of standard input, and says whether it was read to its end.
+// Sets down the lines of standard input, and says whether it was read to its end, or to where it can be read no further.
 pub fn mend(kept: &mut Kept, dropped: &mut Dropped, ends: &mut Ends) -> bool
     ensures { λ r. ⌜ (r ≡ true → onSheet kept dropped ends (λ (s s′ : Sheet). Mends s s′)) ⌝ }
 {

@@ -129,13 +129,13 @@ module _ (before : List (List ℕ)) (l : List ℕ) (behind : List (List ℕ)) wh
   dropped-refused e d a = d (verdict-so ∙ ap (λ (q : Machine × ℕ). q .1) (judged-other there (reading l .0) (reading l .1) e) ∙ ap statusOf a)
 
 -- ---- every line is kept or dropped, once, in order
--- lines from number n on, those that are kept, and the numbers and statuses of those that are dropped
-pub data Sorted : ℕ → List (List ℕ) → List (List ℕ) → List (ℕ × ℕ) → Type 0 where
-  none : {n : ℕ} → Sorted n [] [] []
-  keep : {n : ℕ} {l : List ℕ} {ls ks : List (List ℕ)} {ds : List (ℕ × ℕ)} → Sorted (n + 1) ls ks ds → Sorted n (l ∷ ls) (l ∷ ks) ds
-  leave : {n v : ℕ} {l : List ℕ} {ls ks : List (List ℕ)} {ds : List (ℕ × ℕ)} → (v ≡ 0 → ⊥) → Sorted (n + 1) ls ks ds → Sorted n (l ∷ ls) ks ((n, v) ∷ ds)
+-- the statuses of lines from number n on and the lines; those that are kept, whose status is 0; and of those that are dropped the numbers and statuses
+pub data Sorted : ℕ → List ℕ → List (List ℕ) → List (List ℕ) → List (ℕ × ℕ) → Type 0 where
+  none : {n : ℕ} → Sorted n [] [] [] []
+  keep : {n v : ℕ} {vs : List ℕ} {l : List ℕ} {ls ks : List (List ℕ)} {ds : List (ℕ × ℕ)} → v ≡ 0 → Sorted (n + 1) vs ls ks ds → Sorted n (v ∷ vs) (l ∷ ls) (l ∷ ks) ds
+  leave : {n v : ℕ} {vs : List ℕ} {l : List ℕ} {ls ks : List (List ℕ)} {ds : List (ℕ × ℕ)} → (v ≡ 0 → ⊥) → Sorted (n + 1) vs ls ks ds → Sorted n (v ∷ vs) (l ∷ ls) ks ((n, v) ∷ ds)
 
-pub sorted : (ls : List (List ℕ)) (m : Machine) (n : ℕ) → Sorted n ls (keptOf m ls) (droppedOf m n ls)
+pub sorted : (ls : List (List ℕ)) (m : Machine) (n : ℕ) → Sorted n (verdicts m ls) ls (keptOf m ls) (droppedOf m n ls)
 unfolding verdicts keptBy droppedBy pick
 sorted [] m n = none
 sorted (l ∷ ls) m n =
@@ -143,8 +143,8 @@ sorted (l ∷ ls) m n =
     let v = judgedLine m l .1 in
     let ks = keptOf m′ ls in
     let ds = droppedOf m′ (n + 1) ls in
-    by (λ (b : Bool). Sorted n (l ∷ ls) (pick b (l ∷ ks) ks) (pick b ds ((n, v) ∷ ds))) (eqb v 0)
-    (λ y. keep (sorted ls m′ (n + 1))) (λ d. leave (eqb-false v 0 d) (sorted ls m′ (n + 1)))
+    by (λ (b : Bool). eqb v 0 ≡ b → Sorted n (v ∷ verdicts m′ ls) (l ∷ ls) (pick b (l ∷ ks) ks) (pick b ds ((n, v) ∷ ds))) (eqb v 0)
+    (λ y e. keep (eqb-true v 0 e) (sorted ls m′ (n + 1))) (λ d e. leave (eqb-false v 0 e) (sorted ls m′ (n + 1))) refl
 
 -- ---- the kept lines mended again
 again : (ls : List (List ℕ)) (m : Machine) (n : ℕ) → (keptOf m (keptOf m ls) ≡ keptOf m ls) × (droppedOf m n (keptOf m ls) ≡ [])

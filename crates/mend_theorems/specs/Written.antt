@@ -208,6 +208,6 @@ module _ (k₀ d₀ : List ℕ) (roomy : length k₀ ≡ 17408) (room : length d
       let ls = linesOf input in
       either (ltb 512 (length ls)) (λ y. many-written ls (ltb-true _ _ y) _ refl) (λ n. few-written ls (ltb-false _ _ n) _ refl)
 
-  -- So whatever `mend` has read, what `tell` then hands to the writer is what mending makes of it.
+  -- So whatever `mend` has read, what `finish` then lays and counts for the writer is what mending makes of it.
   pub any-told : (s : Sheet) (r : Mends (sheet k₀ d₀ (0 ∷ 0 ∷ 0 ∷ [])) s) → Writes (finished (s .kept) (s .dropped) (s .ends)) (mended (r .input))
   any-told s r = rw (r .is) (written (r .input))
