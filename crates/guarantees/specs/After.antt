@@ -21,7 +21,7 @@ use Rattle.ranges.specs.Ranges.{meet, meet-if, within-low, within-high}
 use Rattle.mapping.specs.Mapping.{holds, clashes, clash, anyOf, firstOf, deciding, leadOf}
 use Rattle.mapping.specs.Entries.{Apart}
 use Rattle.mapping.specs.Sound.{Sound, sound-none}
-use Rattle.mapping.specs.Once.{coverings, covered-few, one-covers, lead-exact}
+use Rattle.mapping.specs.Once.{coverings, covered-few, one-covers, one-address, one-place, lead-exact}
 use Rattle.ranges.specs.declared.Mapping.{Mapping}
 use Rattle.mapping.specs.declared.Lead.the-variants.{To}
 use Rattle.judgements.specs.Grounds.{Calls}
@@ -117,6 +117,8 @@ guaranteed-after m fit run =
       packed-past = fit-past last f;
       mapped-owned = λ world. fit-sound last f world .owned;
       mapped-inside = λ world. fit-sound last f world .formed;
+      one-address = λ world. one-address (window last) (mapped last world) (fit-sound last f world .formed) (fit-sound last f world .apart);
+      one-place = λ world. one-place (mapped last world) (fit-sound last f world .apart);
       mapped-once = fit-once last f;
       virtual-once = λ world x. one-holds x (mapped last world) (fit-sound last f world .apart);
       one-world = λ u v page a b. sym (fit-sound last f u .owned page a) ∙ fit-sound last f v .owned page b;

@@ -24,7 +24,7 @@ use Rattle.mapping.specs.Lists.{held}
 use Rattle.mapping.specs.Mapping.{holds, deciding, leadOf}
 use Rattle.mapping.specs.Entries.{Every, Inserted, Removed}
 use Rattle.mapping.specs.Sound.{covers, Formed}
-use Rattle.mapping.specs.Once.{coverings, countCovered}
+use Rattle.mapping.specs.Once.{Reaches, coverings, countCovered}
 use Rattle.ranges.specs.declared.Mapping.{Mapping}
 use Rattle.mapping.specs.declared.Lead.the-variants.{To}
 use Rattle.rules.specs.Sizes.{normal}
@@ -88,6 +88,10 @@ pub record Guaranteed (m : Machine) (run : Events) (last : Machine) (answers : L
   pub mapped-owned : (world page : ℕ) → covers (window last) (mapped last world) page ≡ true → ownerIn last page ≡ world
   -- Each of them is of some whole pages inside the window, ends at or below 2^32, and has attributes 0, 1 or 2.
   pub mapped-inside : (world : ℕ) → Every (Formed (window last)) (mapped last world)
+  -- A page has at most one virtual address in a world: two addresses that any mappings of the world lead to one page lie in one virtual page.
+  pub one-address : (world x y p q : ℕ) → Reaches (mapped last world) x p → Reaches (mapped last world) y q → p / 4096 ≡ q / 4096 → x / 4096 ≡ y / 4096
+  -- What one virtual address reaches by any mappings of the world is one place.
+  pub one-place : (world x p q : ℕ) → Reaches (mapped last world) x p → Reaches (mapped last world) x q → p ≡ q
   -- Each page is covered at most once in a world.
   pub mapped-once : (world page : ℕ) → coverings (window last) (mapped last world) page ≤ 1
   -- No two mappings of a world hold one virtual address.
