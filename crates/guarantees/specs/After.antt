@@ -2,7 +2,6 @@
 use mathlib.Core.Path.{_≡_, refl, sym, _∙_}
 use mathlib.Core.Bool.{true, false}
 use mathlib.Core.List.{List, [], _∷_}
-use mathlib.Core.Option.{none, some}
 use mathlib.Core.Logic.{inl}
 use Prim.Native.Nat.{ℕ, _+_, _-_, _≤_, _<_}
 use native.Mathlib.Omega.{arith}
@@ -11,19 +10,18 @@ use borrow.Author.Tests.{eqb-true, eqb-false, ltb-true, ltb-false}
 use lib.Dec.{ltb}
 use lib.ListN.{getD}
 use Rattle.rules.specs.Sizes.{mostCores}
-use Rattle.rules.specs.Choice.{pick-yes, pick-no, either, yes-or-no, first-or, not-first, not-second}
+use Rattle.rules.specs.Choice.{either, yes-or-no}
 use Rattle.cores.specs.Power.{isOn, isPending}
 use Rattle.cores.specs.Cores.{power, turn, firstPowers, first-power-other, first-turn}
 use Rattle.pages.specs.Window.{accepted}
 use Rattle.pages.specs.Owners.{unowned-owner, unowned-packed, packed-world, packed-inside, packed-past}
 use Rattle.mapping.specs.Lists.{held-unmapped}
-use Rattle.ranges.specs.Ranges.{meet, meet-if, within-low, within-high}
-use Rattle.mapping.specs.Mapping.{holds, clashes, clash, anyOf, firstOf, deciding, leadOf}
-use Rattle.mapping.specs.Entries.{Apart}
+use Rattle.mapping.specs.Mapping.{smallestOf, deciding, leading, leadOf}
+use Rattle.mapping.specs.Entries.{Among, beside-two}
 use Rattle.mapping.specs.Sound.{Sound, sound-none}
-use Rattle.mapping.specs.Once.{coverings, covered-few, one-covers, one-address, one-place, lead-exact}
+use Rattle.mapping.specs.Once.{Reaches, LedBy, covered-few, one-address, one-place, led, leads}
 use Rattle.ranges.specs.declared.Mapping.{Mapping}
-use Rattle.mapping.specs.declared.Lead.the-variants.{To}
+use Rattle.mapping.specs.declared.Lead.the-variants.{To, Nowhere}
 use Rattle.judgements.specs.Grounds.{Calls}
 use Rattle.calls.specs.Right.{Right}
 use Rattle.setup.specs.Table.{ready, ended, cores}
@@ -33,32 +31,7 @@ use Rattle.frames.specs.Stays.{site-stays, settled}
 use Rattle.guarantees.specs.Runs.{Event, Events, next, ran, replies, replies-count, always}
 use Rattle.guarantees.specs.Fit.{Fit, fit-next}
 use Rattle.guarantees.specs.Owners.{owner-named, named-owner}
-use Rattle.guarantees.specs.Statements.{window, ownerIn, markIn, mapped, holdings, Guaranteed}
-
--- ---- a world's mappings are apart, so one virtual address is held once
-module _ (x : ℕ) where
-  holding-clash : (m n : Mapping) → holds x m ≡ true → holds x n ≡ true → clashes m n ≡ true
-  unfolding clashes holds
-  holding-clash m n e h =
-      let a = within-low x (m .virt) (m .size) e in
-      let b = within-high x (m .virt) (m .size) e in
-      let c = within-low x (n .virt) (n .size) h in
-      let d = within-high x (n .virt) (n .size) h in
-      first-or (meet (m .virt) (m .size) (n .virt) (n .size)) _ (meet-if (m .virt) (m .size) (n .virt) (n .size) (omega arith) (omega arith))
-
-  none-holds : (m : Mapping) → holds x m ≡ true → (l : List Mapping) → clash l m ≡ false → holdings l x ≡ 0
-  unfolding holdings clash anyOf
-  none-holds m e [] h = refl
-  none-holds m e (n ∷ l) h =
-      either (holds x n) (λ y. absurd (yes-or-no _ (holding-clash m n e y) (not-first (clashes m n) _ h)))
-      (λ k. rw (pick-no {A = ℕ} (holds x n) 1 0 k) (omega (arith, none-holds m e l (not-second (clashes m n) _ h))))
-
-  one-holds : (l : List Mapping) → Apart l → holdings l x ≤ 1
-  unfolding holdings Apart
-  one-holds [] a = omega arith
-  one-holds (m ∷ l) a =
-      either (holds x m) (λ y. rw (pick-yes {A = ℕ} (holds x m) 1 0 y) (omega (arith, none-holds m y l (a .0))))
-      (λ k. rw (pick-no {A = ℕ} (holds x m) 1 0 k) (omega (arith, one-holds l (a .1))))
+use Rattle.guarantees.specs.Statements.{window, ownerIn, markIn, mapped, Guaranteed}
 
 -- ---- what a fit machine is, set up or not
 module _ (m : Machine) (fit : Fit m) where
@@ -79,15 +52,20 @@ module _ (m : Machine) (fit : Fit m) where
   fit-past page h l =
       by-time (λ e r. packed-past (m .owners) _ (r .packed) page h (l e)) (λ e. rw e (packed-past _ 0 unowned-packed page h (omega arith)))
 
-  fit-once : (world page : ℕ) → coverings (window m) (mapped m world) page ≤ 1
-  unfolding coverings
-  fit-once world page = by-time (λ e r. one-covers (window m) (m .owners) world (mapped m world) (r .window) (r .sound world) page) (λ e. rw (e, held-unmapped world) (omega arith))
+  -- nothing leads anywhere in the first machine
+  nowhere : m ≡ first → (world x p a : ℕ) → leadOf (mapped m world) x ≡ To p a → ⊥
+  unfolding leadOf leading deciding smallestOf
+  nowhere e world x p a d = let z : Nowhere ≡ To p a = (rw (e, held-unmapped world) at d) in let y : _≡_ {A = ℕ} 0 1 = cc in omega arith
 
-  fit-exact : (world x : ℕ) (n : Mapping) → deciding (mapped m world) x ≡ some n → leadOf (mapped m world) x ≡ To (n .phys + (x - n .virt)) (n .attr)
-  unfolding deciding firstOf
-  fit-exact world x n d =
-      by-time (λ e r. lead-exact (window m) (r .window) (m .owners) world (mapped m world) (r .sound world) x n d)
-      (λ e. let z : none ≡ some n = (rw (e, held-unmapped world) at d) in let y : _≡_ {A = ℕ} 0 1 = cc in absurd (omega arith))
+  fit-led : (world x p a : ℕ) → leadOf (mapped m world) x ≡ To p a → LedBy (mapped m world) x p a
+  fit-led world x p a d =
+      by-time (λ e r. led (window m) (r .window) (m .owners) world (mapped m world) (r .sound world) x p a d) (λ e. absurd (nowhere e world x p a d))
+
+  fit-leads : (world x p : ℕ) → Reaches (mapped m world) x p → (a : ℕ) × (leadOf (mapped m world) x ≡ To p a)
+  unfolding Among
+  fit-leads world x p r =
+      by-time (λ e g. leads (window m) (g .window) (m .owners) world (mapped m world) (g .sound world) x p r)
+      (λ e. absurd (rw (e, held-unmapped world) at (r .among)))
 
   fit-absent : (core : ℕ) → ready (m .setup) ≡ true → cores (m .setup) ≤ core → (isOn (power (m .powers) core) ≡ false) × (isPending (power (m .powers) core) ≡ false)
   unfolding isOn isPending
@@ -119,12 +97,12 @@ guaranteed-after m fit run =
       mapped-inside = λ world. fit-sound last f world .formed;
       one-address = λ world. one-address (window last) (mapped last world) (fit-sound last f world .formed) (fit-sound last f world .apart);
       one-place = λ world. one-place (mapped last world) (fit-sound last f world .apart);
-      mapped-once = fit-once last f;
-      virtual-once = λ world x. one-holds x (mapped last world) (fit-sound last f world .apart);
+      nested = λ world n o. beside-two (mapped last world) n o (fit-sound last f world .apart);
+      led = fit-led last f;
+      leads = fit-leads last f;
       one-world = λ u v page a b. sym (fit-sound last f u .owned page a) ∙ fit-sound last f v .owned page b;
       mapped-few = λ world. covered-few (window last) (last .owners) world (mapped last world) (fit-sound last f world);
       sixteen = λ world. fit-sound last f world .few;
-      exact = fit-exact last f;
       runs = fit-runs last f;
       absent = fit-absent last f;
       idle = f .idle;

@@ -1,28 +1,31 @@
--- What a granted transfer met, and a granted start: whose the pages were, and how the core stood.
+-- What a granted transfer met, and a granted start: whose the pages were, and how the core stood; and which transfers are granted.
 use mathlib.Core.Path.{_≡_, refl, sym, subst, _∙_}
-use mathlib.Core.Bool.{true}
+use mathlib.Core.Bool.{Bool, true, false}
 use mathlib.Core.List.{List}
 use mathlib.Core.Logic.{⊎-elim}
-use Prim.Native.Nat.{ℕ, _+_, _-_, _*_, _/_, _%_}
+use Prim.Native.Nat.{ℕ, _+_, _-_, _*_, _/_, _%_, _≤_}
 use native.Mathlib.Omega.{arith}
 use lib.Dec.{eqb, ltb, leb}
 use borrow.Author.Tests.{eqb-true, eq-eqb, ne-eqb, ltb-true, ltb-false, leb-true, leb-false}
-use Rattle.rules.specs.Choice.{pick-yes, pick-no, either, yes-or-no, left-true, right-true}
-use Rattle.rules.specs.Sizes.{secure, normal, realm, pageSize}
-use Rattle.pages.specs.Window.{acceptable, pageOf, runOf, InPage, page-at, page-below, page-past}
-use Rattle.pages.specs.Owners.{owner}
+use Rattle.rules.specs.Choice.{pick, pick-yes, pick-no, by, either, chosen, yes-or-no, left-true, right-true}
+use Rattle.rules.specs.Sizes.{secure, normal, realm, lastWorld, pageSize}
+use Rattle.pages.specs.Window.{acceptable, pageOf, runOf, run-is, InPage, page-at, page-below, page-past}
+use Rattle.pages.specs.Owners.{owner, owned-if}
 use Rattle.pages.specs.declared.Window.{Window}
 use Rattle.pages.specs.declared.Place.{Place}
 use Rattle.pages.specs.declared.Place.the-variants.{Page, Outside}
-use Rattle.mapping.specs.Sound.{unmet-run}
+use Rattle.mapping.specs.Sound.{unmet-run, unmet-if}
 use Rattle.ranges.specs.declared.Mapping.{Mapping}
-use Rattle.transfers.specs.Granted.{transfer-granted, moved-from}
+use Rattle.transfers.specs.Granted.{transfer-granted, movable-granted, moved-from}
+use Rattle.transfers.specs.declared.Verdict.the-variants.{Granted}
 use Rattle.judgements.specs.Judge.{ownedAt, goodStart}
 use Rattle.judgements.specs.Grounds.{Takes, Between, grounded}
 use Rattle.judgements.specs.Grounds.Between.{toCaller, toNormal}
+use Rattle.judgements.specs.Granted.{moveVerdict}
 use Rattle.judgements.specs.declared.Deed.the-variants.{Move, Start}
 use Rattle.calls.specs.Step.{State, sight}
 use Rattle.calls.specs.Effects.{deedIn, moves}
+use Rattle.calls.specs.Right.{Right}
 use Rattle.frames.specs.Frames.{Machine, stateOf}
 use Rattle.guarantees.specs.Statements.{window, mapped, caller, giver, Had, Startable}
 
@@ -80,6 +83,25 @@ module _ (m : Machine) (core : ℕ) (xs : List ℕ) where
           unmapped = λ page h k. rw (sym (b .1)) (unmet-run (window m) (g .list) (g .start) count first ok (v .lies) (v .unmet) page h k);
         }),
       )
+
+  -- a run that the giver has whole and unmapped gets a verdict that grants it
+  pub movable : Right s → caller m core xs ≤ lastWorld → (start count to : ℕ) → (h : Had m (giver m core xs to) start count) → moveVerdict (sight s core .inner) start count to ≡ Granted (h .first)
+  movable r few start count to h =
+      let i = run-is (window m) (r .window) start count (h .first) (h .lies) in
+      let b = eqb to normal in
+      let from : giver m core xs to ≤ lastWorld = chosen (λ (w : ℕ). w ≤ lastWorld) b (caller m core xs) normal (λ y. few) (λ n. omega arith) in
+      let list : pick b (mapped m (caller m core xs)) (mapped m normal) ≡ mapped m (giver m core xs to) =
+      by (λ (c : Bool). pick c (mapped m (caller m core xs)) (mapped m normal) ≡ mapped m (pick c (caller m core xs) normal)) b
+      (λ y. rw (pick-yes true (mapped m (caller m core xs)) (mapped m normal), pick-yes {A = ℕ} true (caller m core xs) normal))
+      (λ n. rw (pick-no false (mapped m (caller m core xs)) (mapped m normal), pick-no {A = ℕ} false (caller m core xs) normal)) in
+      rw list
+      (movable-granted (window m) (m .owners) (mapped m (giver m core xs to)) (giver m core xs to) start count (h .first)
+      (record {
+        lies = h .lies;
+        mine = owned-if (m .owners) (h .first) count (giver m core xs to) (window m .pages) (r .packed) (i .most) (i .inside) from (h .owned);
+        unmet = unmet-if (window m) (mapped m (giver m core xs to)) start count (h .first) (i .starts) (h .some) (h .unmapped);
+      })
+      (λ z. omega (arith, h .some)))
 
   pub startable : (c a x : ℕ) → deedIn s core xs ≡ Start c a x → (caller m core xs ≡ normal) × Startable m c a
   unfolding goodStart

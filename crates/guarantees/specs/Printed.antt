@@ -18,8 +18,9 @@ use Rattle.registers.specs.Registers.{saved, saved-no-number, saved-zeros}
 use Rattle.cores.specs.Power.{isOn}
 use Rattle.cores.specs.Cores.{power, on-count-le, onCount, first-power-zero, first-power-other}
 use Rattle.pages.specs.declared.Window.{Window}
-use Rattle.mapping.specs.Mapping.{holds, deciding, leading, leadOf}
-use Rattle.mapping.specs.Entries.{Every, every-first}
+use Rattle.mapping.specs.Mapping.{deciding, leading, leadOf}
+use Rattle.mapping.specs.Entries.{Every, every-among}
+use Rattle.mapping.specs.Deciding.{deciding-is}
 use Rattle.mapping.specs.Sound.{Formed}
 use Rattle.mapping.specs.declared.Lead.{Lead}
 use Rattle.mapping.specs.declared.Lead.the-variants as Lead
@@ -162,8 +163,7 @@ argument-small p n h = chosen (λ (k : ℕ). k < 2 ^ 64) _ _ _ (λ y. omega arit
 
 -- where an address leads
 decides-formed : (w : Window) (l : List Mapping) (x : ℕ) (n : Mapping) → Every (Formed w) l → deciding l x ≡ some n → Formed w n
-unfolding deciding
-decides-formed w l x n f k = every-first (Formed w) (holds x) l n f k
+decides-formed w l x n f k = every-among (Formed w) l n f (deciding-is l x n k .among)
 
 led : (w : Window) (l : List Mapping) (x phys attr : ℕ) → Every (Formed w) l → leadOf l x ≡ Lead.To phys attr → (phys < 2 ^ 64) × (attr < 2 ^ 64)
 unfolding leadOf leading

@@ -3,7 +3,6 @@ use mathlib.Core.Path.{_≡_}
 use mathlib.Core.Bool.{true, false}
 use mathlib.Core.List.{List, [], _∷_, _++_}
 use mathlib.Core.Logic.{_⊎_}
-use mathlib.Core.Option.{some}
 use Prim.Native.Nat.{ℕ, zero, suc, _+_, _-_, _*_, _/_, _%_, _^_, _≤_, _<_}
 use lib.Dec.{eqb}
 use lib.ListN.{length, getD, drop}
@@ -21,15 +20,17 @@ use Rattle.pages.specs.Owners.{owner, countOwned}
 use Rattle.pages.specs.declared.Window.{Window}
 use Rattle.pages.specs.declared.Place.the-variants.{Page}
 use Rattle.mapping.specs.Lists.{held}
-use Rattle.mapping.specs.Mapping.{holds, deciding, leadOf}
-use Rattle.mapping.specs.Entries.{Every, Inserted, Removed}
+use Rattle.mapping.specs.Mapping.{leadOf}
+use Rattle.mapping.specs.Entries.{Every, Among, Beside, Inserted, Removed}
 use Rattle.mapping.specs.Sound.{covers, Formed}
-use Rattle.mapping.specs.Once.{Reaches, coverings, countCovered}
+use Rattle.mapping.specs.Granted.{Mappable}
+use Rattle.mapping.specs.Once.{Reaches, LedBy, countCovered}
 use Rattle.ranges.specs.declared.Mapping.{Mapping}
 use Rattle.mapping.specs.declared.Lead.the-variants.{To}
 use Rattle.rules.specs.Sizes.{normal}
 use Rattle.judgements.specs.Judge.{calledBy, argsOf, found}
 use Rattle.judgements.specs.Grounds.{Calls, Takes}
+use Rattle.judgements.specs.Granted.{MayMove}
 use Rattle.judgements.specs.Hint.{Known}
 use Rattle.judgements.specs.Refused.{Unknown, Barred}
 use Rattle.judgements.specs.declared.Answer.the-variants.{No}
@@ -67,11 +68,6 @@ markIn m page = getD (m .owners) (page / 16) 0 / 16 ^ (page % 16) % 16
 abbrev pub mapped : Machine → ℕ → List Mapping
 mapped m world = held (m .lists) world
 
--- how many mappings of a list hold a virtual address
-unfoldable pub holdings : List Mapping → ℕ → ℕ
-holdings [] x = 0
-holdings (m ∷ l) x = pick (holds x m) 1 0 + holdings l x
-
 -- ---- after a run from a machine m, of the machine and the answers that it leaves
 pub record Guaranteed (m : Machine) (run : Events) (last : Machine) (answers : List Reply) : Type 0 where
   -- Each page's owner is the one whom the page's last granted transfer names, or else the set-up line, or else who it was before.
@@ -92,18 +88,18 @@ pub record Guaranteed (m : Machine) (run : Events) (last : Machine) (answers : L
   pub one-address : (world x y p q : ℕ) → Reaches (mapped last world) x p → Reaches (mapped last world) y q → p / 4096 ≡ q / 4096 → x / 4096 ≡ y / 4096
   -- What one virtual address reaches by any mappings of the world is one place.
   pub one-place : (world x p q : ℕ) → Reaches (mapped last world) x p → Reaches (mapped last world) x q → p ≡ q
-  -- Each page is covered at most once in a world.
-  pub mapped-once : (world page : ℕ) → coverings (window last) (mapped last world) page ≤ 1
-  -- No two mappings of a world hold one virtual address.
-  pub virtual-once : (world x : ℕ) → holdings (mapped last world) x ≤ 1
+  -- Any two mappings of a world are the same, or clear of each other, or one is a smaller one inside the other with the same difference of virtual and physical addresses.
+  pub nested : (world : ℕ) (n o : Mapping) → Among n (mapped last world) → Among o (mapped last world) → (n ≡ o) ⊎ Beside n o
+  -- An address leads by the smallest mapping of the world that holds it, and the sum that says where is exact;
+  pub led : (world x p a : ℕ) → leadOf (mapped last world) x ≡ To p a → LedBy (mapped last world) x p a
+  -- and it leads to whatever it reaches by any of them.
+  pub leads : (world x p : ℕ) → Reaches (mapped last world) x p → (a : ℕ) × (leadOf (mapped last world) x ≡ To p a)
   -- No page is mapped by two worlds.
   pub one-world : (u v page : ℕ) → covers (window last) (mapped last u) page ≡ true → covers (window last) (mapped last v) page ≡ true → u ≡ v
-  -- No world has more pages mapped than it owns.
+  -- No world has more pages mapped than it owns, each page counted once, however many of its mappings cover it.
   pub mapped-few : (world : ℕ) → countCovered (window last) (mapped last world) ≤ countOwned (last .owners) (window last .pages) world
   -- A world holds at most sixteen mappings.
   pub sixteen : (world : ℕ) → length (mapped last world) ≤ 16
-  -- The sum that says where an address leads does not wrap: it is exact.
-  pub exact : (world x : ℕ) (n : Mapping) → deciding (mapped last world) x ≡ some n → leadOf (mapped last world) x ≡ To (n .phys + (x - n .virt)) (n .attr)
   -- A core that is ON runs Normal, Secure or Realm.
   pub runs : (core : ℕ) → isOn (power (last .powers) core) ≡ true → Calls (turn (last .turns) core .world)
   -- Once set-up has said how many cores there are, no other is ON or pending.
@@ -182,6 +178,10 @@ module _ (m : Machine) (core : ℕ) (xs : List ℕ) where
   -- who gives pages to a world: the caller to Normal, and Normal to the caller
   abbrev pub giver : ℕ → ℕ
   giver to = pick (eqb to normal) caller normal
+
+  -- the mapping that a map asks for
+  abbrev pub asked : Mapping
+  asked = record { virt = arg 2; phys = arg 1; size = arg 3; attr = arg 4 }
 
   -- what the call is: it passes the test on bits 23 to 17, reaches this handler and has this identifier, but for the hint of a fast call
   abbrev pub Is : ℕ → ℕ → Type 0
@@ -307,11 +307,18 @@ module _ (m : Machine) (core : ℕ) (xs : List ℕ) where
       pub move-done : (start count to : ℕ) → AsksTransfer m core xs start count to → x 0 ≡ 0 → Given m last start count to
       -- Its caller is Secure or Realm, and before it the whole run was the giver's and not mapped.
       pub move-owned : (start count to : ℕ) → AsksTransfer m core xs start count to → x 0 ≡ 0 → Takes caller × Had m (giver to) start count
+      -- One that its caller may ask for is answered 0 where the run is so: where none of the giver's mappings covers a page of it any more.
+      pub move-granted : (start count to : ℕ) → AsksTransfer m core xs start count to → MayMove caller (key xs) → Had m (giver to) start count → x 0 ≡ 0
       -- No other call changes an owner.
       pub owners-stay : ((start count to : ℕ) → AsksTransfer m core xs start count to → x 0 ≡ 0 → ⊥) → last .owners ≡ m .owners
       -- A map of some size that is answered 0 puts its mapping into the caller's list, which else is as it was.
       pub map-done : Is 1 0xC2000020 → x 0 ≡ 0 → (arg 3 ≡ 0 → ⊥)
-          → Inserted (record { virt = arg 2; phys = arg 1; size = arg 3; attr = arg 4 }) (mapped m caller) (mapped last caller)
+          → Inserted asked (mapped m caller) (mapped last caller)
+      -- It is answered so where the mapping may be made, inside or around others of the caller's too, and nowhere else:
+      pub map-granted : Is 1 0xC2000020 → Mappable (window m) (m .owners) caller (mapped m caller) asked → x 0 ≡ 0
+      pub map-made : Is 1 0xC2000020 → x 0 ≡ 0 → (arg 3 ≡ 0 → ⊥) → Mappable (window m) (m .owners) caller (mapped m caller) asked
+      -- one that is well formed, with fewer than sixteen held, and may not stand beside one of these is refused with -1.
+      pub map-overlaps : Is 1 0xC2000020 → Formed (window m) asked → length (mapped m caller) < 16 → (n : Mapping) → Among n (mapped m caller) → (Beside asked n → ⊥) → last ≡ denied 1
       -- An unmap that is answered 0 takes its mapping out, and nothing else.
       pub unmap-done : Is 1 0xC2000021 → x 0 ≡ 0 → Removed (arg 1) (arg 2) (mapped m caller) (mapped last caller)
       -- No other call changes the caller's list, and none another world's.

@@ -19,11 +19,14 @@ use Rattle.cores.specs.Power.{powerOf, on, isPending}
 use Rattle.cores.specs.Cores.{power}
 use Rattle.ranges.specs.declared.Mapping.{Mapping}
 use Rattle.mapping.specs.Lists.{held}
-use Rattle.mapping.specs.Sound.{granted-formed}
+use Rattle.mapping.specs.Entries.{Every, every-of, every-among}
+use Rattle.mapping.specs.Sound.{Formed, granted-formed}
+use Rattle.mapping.specs.Granted.{granted-mappable, mappable-granted, overlap-refused}
 use Rattle.rules.specs.Sizes.{secure, normal, mostCores}
 use Rattle.judgements.specs.Judge.{calledBy, argsOf, affirmed, found, wanted}
 use Rattle.judgements.specs.Asked.{Finishes, by-secure, by-realm, called-for, leads-asked, judged-reserved}
 use Rattle.judgements.specs.Decided.{asked-map, asked-unmap, asked-start, asked-off, asked-hand-over, asked-finish, asked-where, asked-count, asked-version, asked-power-version, asked-features, asked-power-features, asked-unknown-call, asked-barred}
+use Rattle.judgements.specs.Granted.{asked-moved, asked-mapped, asked-unmappable}
 use Rattle.judgements.specs.Hint.{hint-idle, hint-width, fast-key, yielding-key, Plain, asked-known, asked-unknown}
 use Rattle.judgements.specs.Grounds.{grounded}
 use Rattle.judgements.specs.declared.Answer.{Answer}
@@ -53,7 +56,7 @@ use Rattle.guarantees.specs.Fit.{Fit}
 use Rattle.guarantees.specs.Entries.{reaches}
 use Rattle.guarantees.specs.Accepted.{partly, performs, right, inside, may, calling, saved-are, owners-are, powers-are, turns-are, lists-are, done-told, told-done, transfer-moves, moves-granted}
 use Rattle.guarantees.specs.Counted.{on-counted}
-use Rattle.guarantees.specs.Met.{had, startable}
+use Rattle.guarantees.specs.Met.{had, movable, startable}
 use Rattle.guarantees.specs.Statements.{running, caller, arg, HandsOver, GivesBack, SwitchesOff, powerKnown, denied, HeededCall, HeededArrival, HeededOther, Heeded}
 
 -- only a hand-over to a world, or a finish, writes the world's numbers
@@ -224,6 +227,12 @@ module _ (m : Machine) (fit : Fit m) (e : Event) (core : ℕ) (is : e .0 ≡ Fra
       let g = rw d at (grounded (sight s core) xs .stands) in
       omega (arith, granted-formed (s .site .window) (right m fit e core is t .window) (held (s .lists) (callerOf s core)) (s .owners) (callerOf s core) n (g .verdict) .some)
 
+  -- the caller's mappings have some size
+  sizes : Every (λ (n : Mapping). 0 < n .size) (held (s .lists) (callerOf s core))
+  sizes =
+      every-of (λ (n : Mapping). 0 < n .size) (held (s .lists) (callerOf s core))
+      (λ n i. every-among (Formed (s .site .window)) (held (s .lists) (callerOf s core)) n (right m fit e core is t .sound (callerOf s core) .formed) i .some)
+
   -- what an answer of one number leaves in x0
   tells : (a : Answer) {n : ℕ} → written (calledBy xs) a ≡ n ∷ [] → answerIn s core xs ≡ a → saved (next m e .saved) core (caller m core xs) 0 ≡ n
   tells a {n} w b =
@@ -312,6 +321,8 @@ module _ (m : Machine) (fit : Fit m) (e : Event) (core : ℕ) (is : e .0 ≡ Fra
         move-owned = λ start count to a z.
             let g = transfer-moves m fit e core is t start count to a z in
             had m core xs (r .window) start count (g .first) to (g .lies) (g .moves);
+        move-granted = λ start count to a y h.
+            done-told m fit e core is t (asked-moved (sight s core) xs (may m fit e core is t) start count to (h .first) a y (movable m core xs r (omega (arith, c)) start count to h));
         owners-stay = λ n.
             owners-are m fit e core is t ∙ Effects.owners-spared s core xs (carries deed (λ first count to d.
             let v = moves-granted m fit e core is t first count to d in
@@ -319,6 +330,16 @@ module _ (m : Machine) (fit : Fit m) (e : Event) (core : ℕ) (is : e .0 ≡ Fra
         map-done = λ a z n.
             rw (lists-are m fit e core is t) (Left.list-mapped s core xs (wanted (argsOf (calledBy xs) xs))
             (told-done m fit e core is t (λ (d : Deed). d ≡ Map (wanted (argsOf (calledBy xs) xs))) (asked-map (sight s core) xs a n) z) (r .window) (r .whole .lists-whole) c);
+        map-granted = λ a q.
+            done-told m fit e core is t (asked-mapped (sight s core) xs (may m fit e core is t) a
+            (mappable-granted (s .site .window) (r .window) (s .owners) (callerOf s core) (held (s .lists) (callerOf s core)) (wanted (argsOf (calledBy xs) xs)) (r .packed) (omega (arith, c)) sizes q));
+        map-made = λ a z n.
+            let d = told-done m fit e core is t (λ (d : Deed). d ≡ Map (wanted (argsOf (calledBy xs) xs))) (asked-map (sight s core) xs a n) z in
+            let g = rw d at (grounded (sight s core) xs .stands) in
+            granted-mappable (s .site .window) (r .window) (s .owners) (callerOf s core) (held (s .lists) (callerOf s core)) (wanted (argsOf (calledBy xs) xs)) (g .verdict);
+        map-overlaps = λ a f k n i d.
+            refuses Reason.Overlap (asked-unmappable (sight s core) xs (may m fit e core is t) a Reason.Overlap
+            (overlap-refused (s .site .window) (r .window) (s .owners) (callerOf s core) (held (s .lists) (callerOf s core)) (wanted (argsOf (calledBy xs) xs)) f k n i d));
         unmap-done = λ a z.
             rw (lists-are m fit e core is t) (Left.list-unmapped s core xs (arg m core xs 1) (arg m core xs 2)
             (told-done m fit e core is t (λ (d : Deed). d ≡ Unmap (arg m core xs 1) (arg m core xs 2)) (asked-unmap (sight s core) xs a) z) (r .whole .lists-whole));

@@ -200,7 +200,7 @@ module _ (s : Sight) (xs : List ℕ) where
       (λ h ok e. let k : Handler h ≡ Handler (r .number) = sym e ∙ r .reached in let n : h ≡ r .number = cc in rw n (where-tells (s .inner) args (r .number) (key xs) (r .so)))
 
   module _ (may : oneOf (s .inner .caller .world) callers ≡ true) where
-    found-at : {P : ℕ → Type 0} (r : Reached s xs P) → judged s xs ≡ byHandler (s .inner) args (key xs) (r .number)
+    pub found-at : {P : ℕ → Type 0} (r : Reached s xs P) → judged s xs ≡ byHandler (s .inner) args (key xs) (r .number)
     unfolding found
     found-at r = judged-found s xs may (r .passes) ∙ rw (r .reached)
 

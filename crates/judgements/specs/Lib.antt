@@ -9,3 +9,4 @@ pub mod Decided
 pub mod Granules
 pub mod Hint
 pub mod Quiet
+pub mod Granted

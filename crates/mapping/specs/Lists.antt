@@ -2,7 +2,7 @@
 use mathlib.Core.Path.{_≡_, refl, sym, ap, _∙_}
 use mathlib.Core.Bool.{true, false, _&&_}
 use mathlib.Core.List.{List, []}
-use mathlib.Core.Option.{none, some}
+use mathlib.Core.Option.{Option, none, some}
 use Prim.Native.Nat.{ℕ, _+_, _-_, _*_, _%_, _^_, _≤_, _<_}
 use native.Mathlib.Omega.{arith}
 use lib.Dec.{ltb, eqb}
@@ -10,18 +10,22 @@ use lib.ListN.{length}
 use borrow.Author.Tests.{lt-ltb, le-ltb, le-leb, lt-leb, ne-eqb, eq-eqb, eqb-true, eqb-false, ltb-true, ltb-false}
 use Rattle.rules.specs.Choice.{either, both-true, left-true, right-true, yes-or-no}
 use Rattle.rules.specs.Sizes.{worlds, pageSize, mostMappings}
-use Rattle.mapping.specs.Mapping.{onPages, anyOf, firstOf, clash, isFull, hasExactly, meetsRun, deciding, leading, leadOf, without}
-use Rattle.mapping.specs.Entries.{Inserted, first-missing, without-missing, deciding-low}
+use Rattle.mapping.specs.Mapping.{onPages, anyOf, clash, isFull, hasExactly, meetsRun, touched, deciding, decidedBy, leading, leadOf, without}
+use Rattle.mapping.specs.Entries.{Inserted, without-missing}
+use Rattle.mapping.specs.Deciding.{deciding-low}
 use Rattle.ranges.specs.Question.{asksFree, asks, answers}
 use Rattle.tools.specs.Search.{first}
-use Rattle.mapping.specs.Places.{gathered, lowest, lowest-any, lowest-none, lowest-first, lowest-free, room-left, none-left, filled-in, removed, gathered-same, gathered-none, gathered-some}
+use Rattle.mapping.specs.Places.{gathered, lowest, lowest-any, lowest-none, lowest-free, heldAt, here-none, here-some, smallest-gathered, room-left, none-left, filled-in, removed, gathered-same, gathered-none, gathered-some}
 pub use Rattle.places.specs.Table.{unmapped, WholeLists, unmapped-whole, place}
 use Rattle.places.specs.Found.{found}
+use Rattle.places.specs.Decider.{decider}
 use Rattle.places.specs.Table.{blank, stored, stored-whole, stored-same, stored-other, place-no-world, stored-no-world, stored-no-place, unmapped-blank}
 use Rattle.ranges.specs.declared.Mapping.{Mapping}
+use Rattle.mapping.specs.declared.Decider.{Decider}
+use Rattle.mapping.specs.declared.Decider.the-variants.{By, Nobody}
 use Rattle.mapping.specs.declared.Lead.the-variants.{To, Nowhere}
 use Rattle.ranges.specs.declared.Question.{Question}
-use Rattle.ranges.specs.declared.Question.the-variants.{Free, Exact, OnPages, OnRange, Holds, Clashes}
+use Rattle.ranges.specs.declared.Question.the-variants.{Free, Exact, OnPages, OnRange, Touches, Clashes}
 
 -- the mappings that the world holds, in the order of their places
 pub held : List ℕ → ℕ → List Mapping
@@ -42,14 +46,6 @@ module _ (t : List ℕ) (w : ℕ) (q : Question) (o : asksFree q ≡ false) wher
   found-any =
       either (ltb (found t w q) mostMappings) (λ y. y ∙ sym (lowest-any (place t w) q mostMappings o (ltb-true _ _ y)))
       (λ n. n ∙ sym (lowest-none (place t w) q mostMappings o (ltb-false _ _ n)))
-
-  found-none : mostMappings ≤ found t w q → firstOf (asks q) (held t w) ≡ none
-  unfolding found lowest held
-  found-none h = first-missing (asks q) (gathered (place t w) 0 mostMappings) (lowest-none (place t w) q mostMappings o h)
-
-  found-first : found t w q < mostMappings → firstOf (asks q) (held t w) ≡ some (place t w (found t w q))
-  unfolding found lowest held
-  found-first h = lowest-first (place t w) q mostMappings o h
 
 module _ (t : List ℕ) (w k : ℕ) where
   pub has-is : (v s : ℕ) → k ≡ found t w (Exact v s) → ltb k mostMappings ≡ hasExactly (held t w) v s
@@ -85,22 +81,9 @@ module _ (t : List ℕ) (w k : ℕ) where
     unfolding found lowest held isFull
     full-no h = lt-leb mostMappings (length (held t w)) (room-left (place t w) mostMappings (rw e at h))
 
-  module _ (x : ℕ) (e : k ≡ found t w (Holds x)) where
-    pub leads-nowhere : mostMappings ≤ k → Nowhere ≡ leadOf (held t w) x
-    unfolding asksFree asks leadOf deciding leading
-    leads-nowhere h = rw (found-none t w (Holds x) refl (rw e at h))
-
-    module _ (m : Mapping) (h : k < mostMappings) (f : m ≡ place t w k) where
-      leads-by : deciding (held t w) x ≡ some m
-      unfolding asksFree asks deciding
-      leads-by = found-first t w (Holds x) refl (rw e at h) ∙ ap some (ap (place t w) (sym e) ∙ sym f)
-
-      pub leads-from : m .virt ≤ x
-      leads-from = deciding-low (held t w) x m leads-by
-
-      pub leads-to : (p : ℕ) → p ≡ (m .phys + (x - m .virt)) % 2 ^ 64 → To p (m .attr) ≡ leadOf (held t w) x
-      unfolding leadOf leading
-      leads-to p g = rw (leads-by, g)
+  pub touched-is : (a n : ℕ) → k ≡ found t w (Touches a n) → ltb k mostMappings ≡ touched (held t w) a n
+  unfolding asksFree asks touched
+  touched-is a n e = rw e (found-any t w (Touches a n) refl)
 
   pub holding-is : (m : Mapping) (t′ : List ℕ) → k ≡ found t w Free → t′ ≡ stored t w k m → t′ ≡ holding t w m
   unfolding holding
@@ -110,9 +93,50 @@ module _ (t : List ℕ) (w k : ℕ) where
   unfolding released
   released-is v s m t′ e g f = rw (← e, ← g) f
 
+-- ---- the smallest that the places have is the one that decides
+decider-is : (t : List ℕ) (w x : ℕ) → heldAt (decider t w x) ≡ deciding (held t w) x
+unfolding decider held deciding
+decider-is t w x = smallest-gathered (place t w) x 0 mostMappings
+
+module _ (t : List ℕ) (w x : ℕ) (m : Mapping) (e : m ≡ decider t w x) where
+  pub decides-nobody : m .size ≡ 0 → Nobody ≡ decidedBy (deciding (held t w) x)
+  unfolding decidedBy
+  decides-nobody h = let z : deciding (held t w) x ≡ none = sym (rw e (decider-is t w x)) ∙ here-none m (eq-eqb _ _ h) in rw z
+
+  pub decides-by : (m .size ≡ 0 → ⊥) → By m ≡ decidedBy (deciding (held t w) x)
+  unfolding decidedBy
+  decides-by h = let z : deciding (held t w) x ≡ some m = sym (rw e (decider-is t w x)) ∙ here-some m (ne-eqb _ _ h) in rw z
+
+-- ---- where an address leads, by who decides it
+decided-some : (o : Option Mapping) (m : Mapping) → By m ≡ decidedBy o → o ≡ some m
+unfolding decidedBy
+decided-some none m e = let y : _≡_ {A = ℕ} 0 1 = cc in absurd (omega arith)
+decided-some (some n) m e = let z : m ≡ n = cc in ap some (sym z)
+
+decided-none : (o : Option Mapping) → Nobody ≡ decidedBy o → o ≡ none
+unfolding decidedBy
+decided-none none e = refl
+decided-none (some n) e = let y : _≡_ {A = ℕ} 0 1 = cc in absurd (omega arith)
+
+module _ (l : List Mapping) (x : ℕ) (d : Decider) (e : d ≡ decidedBy (deciding l x)) where
+  pub leads-nowhere : d ≡ Nobody → Nowhere ≡ leadOf l x
+  unfolding leadOf leading
+  leads-nowhere h = let z = decided-none (deciding l x) (sym h ∙ e) in rw z
+
+  module _ (m : Mapping) (h : d ≡ By m) where
+    leads-by : deciding l x ≡ some m
+    leads-by = decided-some (deciding l x) m (sym h ∙ e)
+
+    pub leads-from : m .virt ≤ x
+    leads-from = deciding-low l x m leads-by
+
+    pub leads-to : (p : ℕ) → p ≡ (m .phys + (x - m .virt)) % 2 ^ 64 → To p (m .attr) ≡ leadOf l x
+    unfolding leadOf leading
+    leads-to p g = rw (leads-by, g)
+
 pub ruleset verdict-laws = (clash-yes, clash-no, full-yes, full-no)
 
-pub ruleset list-laws = (has-is, meets-is, meets-bytes, leads-nowhere, leads-from, leads-to, holding-is, released-is)
+pub ruleset list-laws = (has-is, meets-is, meets-bytes, touched-is, decides-nobody, decides-by, leads-nowhere, leads-from, leads-to, holding-is, released-is)
 
 -- ---- for the crates above
 

@@ -1,4 +1,4 @@
--- Lists of mappings: which meet, which decides an address, where the address leads, and how a new one is judged.
+-- Lists of mappings: which may not stand beside a new one, which decides an address, where the address leads, and how a new one is judged.
 use mathlib.Core.Path.{_≡_}
 use mathlib.Core.Bool.{Bool, false, not, _||_}
 use mathlib.Core.List.{List, [], _∷_}
@@ -16,9 +16,11 @@ use Rattle.pages.specs.declared.Window.{Window}
 use Rattle.pages.specs.declared.Place.{Place}
 use Rattle.pages.specs.declared.Place.the-variants.{Page, Outside}
 use Rattle.ranges.specs.declared.Mapping.{Mapping}
-unfoldable pub use Rattle.ranges.specs.Mapping.{exact, onPages, holds, clashes, malformed, beyond}
-pub use Rattle.ranges.specs.Mapping.{unaligned}
+unfoldable pub use Rattle.ranges.specs.Mapping.{exact, onPages, holds, meets, clashes, malformed, beyond}
+pub use Rattle.ranges.specs.Mapping.{unaligned, touches}
 use Rattle.ranges.specs.Mapping.{pagesOf}
+use Rattle.mapping.specs.declared.Decider.{Decider}
+use Rattle.mapping.specs.declared.Decider.the-variants.{By, Nobody}
 use Rattle.mapping.specs.declared.Lead.{Lead}
 use Rattle.mapping.specs.declared.Lead.the-variants.{To, Nowhere}
 use Rattle.mapping.specs.declared.Verdict.{Verdict}
@@ -31,12 +33,17 @@ unfoldable pub anyOf : (Mapping → Bool) → List Mapping → Bool
 anyOf p [] = false
 anyOf p (m ∷ l) = p m || anyOf p l
 
--- the first that passes
-unfoldable pub firstOf : (Mapping → Bool) → List Mapping → Option Mapping
-firstOf p [] = none
-firstOf p (m ∷ l) = pick (p m) (some m) (firstOf p l)
+-- the smaller of a mapping and one that comes after it, if there is one; of two of one size the first
+unfoldable pub lesser : Mapping → Option Mapping → Mapping
+lesser m none = m
+lesser m (some n) = pick (leb (m .size) (n .size)) m n
 
--- a mapping of the list meets the new one
+-- the smallest that passes, and the first of those
+unfoldable pub smallestOf : (Mapping → Bool) → List Mapping → Option Mapping
+smallestOf p [] = none
+smallestOf p (m ∷ l) = pick (p m) (some (lesser m (smallestOf p l))) (smallestOf p l)
+
+-- a mapping of the list may not stand beside the new one
 unfoldable pub clash : List Mapping → Mapping → Bool
 clash l n = anyOf (clashes n) l
 
@@ -48,9 +55,17 @@ hasExactly l v s = anyOf (exact v s) l
 unfoldable pub meetsRun : List Mapping → ℕ → ℕ → Bool
 meetsRun l start count = anyOf (onPages start count) l
 
--- the mapping that decides an address
+-- a mapping of the list meets the virtual range
+unfoldable pub touched : List Mapping → ℕ → ℕ → Bool
+touched l start size = anyOf (touches start size) l
+
+-- the mapping that decides an address: the smallest that holds it
 unfoldable pub deciding : List Mapping → ℕ → Option Mapping
-deciding l x = firstOf (holds x) l
+deciding l x = smallestOf (holds x) l
+
+unfoldable pub decidedBy : Option Mapping → Decider
+decidedBy none = Nobody
+decidedBy (some m) = By m
 
 -- the list with the first mapping of exactly this start and size taken out
 unfoldable pub without : List Mapping → ℕ → ℕ → List Mapping

@@ -1,6 +1,6 @@
 // The mappings of each world. A judgement sees the held ones as a list, in the order of their places.
 ghost use mathlib.Core.Path.{_≡_};
-ghost use Rattle.mapping.specs.Mapping.{hasExactly, meetsRun, leadOf, ownsPages, mapVerdict};
+ghost use Rattle.mapping.specs.Mapping.{hasExactly, meetsRun, touched, deciding, decidedBy, leadOf, ownsPages, mapVerdict};
 ghost use Rattle.mapping.specs.Lists.{held, holding, released};
 use pages::Owners;
 use pages::Place;
@@ -20,6 +20,12 @@ pub enum Verdict {
     Granted,
     Nothing,
     No(Reason),
+}
+
+// Which mapping decides an address.
+pub enum Decider {
+    By(Mapping),
+    Nobody,
 }
 
 // Where an address leads.
@@ -99,15 +105,31 @@ pub fn meets_run(lists: &Lists, world: u64, start: u64, count: u64) -> bool
     places::find_on_pages(lists, world, start, count) < MOST_MAPPINGS
 }
 
+// Whether a mapping of the world meets the `size` virtual addresses from `start` on.
+pub fn touches(lists: &Lists, world: u64, start: u64, size: u64) -> bool
+    ensures { λ r. ⌜ r ≡ touched (held (now (lists .entry)) world) start size ⌝ }
+{
+    places::find_touching(lists, world, start, size) < MOST_MAPPINGS
+}
+
+// The mapping that decides the address: the smallest that holds it.
+pub fn who_decides(lists: &Lists, world: u64, address: u64) -> Decider
+    ensures { λ r. ⌜ r ≡ decidedBy (deciding (held (now (lists .entry)) world) address) ⌝ }
+{
+    let m = places::decider(lists, world, address);
+    if m.size == 0 {
+        return Decider::Nobody;
+    }
+    Decider::By(m)
+}
+
 // Where the address leads, by the mapping that decides it. In a table that a run leaves, the sum does not wrap.
 pub fn lead_of(lists: &Lists, world: u64, address: u64) -> Lead
     ensures { λ r. ⌜ r ≡ leadOf (held (now (lists .entry)) world) address ⌝ }
 {
-    let i = places::find_holding(lists, world, address);
-    if MOST_MAPPINGS <= i {
+    let Decider::By(m) = who_decides(lists, world, address) else {
         return Lead::Nowhere;
-    }
-    let m = places::place_of(lists, world, i);
+    };
     Lead::To {
         phys: std::num::wrapping_add_u64(m.phys, address - m.virt),
         attr: m.attr,

@@ -1,9 +1,10 @@
 // Each world's sixteen places, free or held, in one table that the caller lends. Where there is no such world or place, reading
 // gives a free one and writing changes nothing.
 ghost use mathlib.Core.Path.{_≡_};
-ghost use Rattle.ranges.specs.declared.Question.the-variants.{Free, Exact, OnPages, OnRange, Holds, Clashes};
+ghost use Rattle.ranges.specs.declared.Question.the-variants.{Free, Exact, OnPages, OnRange, Touches, Clashes};
 ghost use Rattle.places.specs.Table.{blank, unmapped, place, stored};
 ghost use Rattle.places.specs.Found.{found};
+ghost use Rattle.places.specs.Decider.{decider};
 use ranges::Mapping;
 use ranges::Question;
 use rules::MOST_MAPPINGS;
@@ -98,21 +99,7 @@ pub fn find_exact(lists: &Lists, world: u64, virt: u64, size: u64) -> u64
     i
 }
 
-// The lowest place that is held with this virtual address in it.
-pub fn find_holding(lists: &Lists, world: u64, address: u64) -> u64
-    ensures { λ r. ⌜ r ≡ found (now (lists .entry)) world (Holds address) ⌝ }
-{
-    let mut i = 0;
-    while i < MOST_MAPPINGS {
-        if place_of(lists, world, i).answers(Question::Holds(address)) {
-            return i;
-        }
-        i += 1;
-    }
-    i
-}
-
-// The lowest place that is held and meets this mapping.
+// The lowest place that is held and that this mapping may not stand beside.
 pub fn find_clashing(lists: &Lists, world: u64, m: Mapping) -> u64
     ensures { λ r. ⌜ r ≡ found (now (lists .entry)) world (Clashes m) ⌝ }
 {
@@ -152,4 +139,32 @@ pub fn find_on_pages(lists: &Lists, world: u64, start: u64, count: u64) -> u64
         i += 1;
     }
     i
+}
+
+// The lowest place that is held, with a virtual range that meets this one.
+pub fn find_touching(lists: &Lists, world: u64, start: u64, size: u64) -> u64
+    ensures { λ r. ⌜ r ≡ found (now (lists .entry)) world (Touches start size) ⌝ }
+{
+    let mut i = 0;
+    while i < MOST_MAPPINGS {
+        if place_of(lists, world, i).answers(Question::Touches { start, size }) {
+            return i;
+        }
+        i += 1;
+    }
+    i
+}
+
+// The smallest mapping of the world that holds the virtual address, that of the lowest place of two of one size; blank where none
+// holds it. The places are seen from the last to the first, as the definition goes through them.
+pub fn decider(lists: &Lists, world: u64, address: u64) -> Mapping
+    ensures { λ r. ⌜ r ≡ decider (now (lists .entry)) world address ⌝ }
+{
+    let mut best = blank();
+    let mut i = MOST_MAPPINGS;
+    while 0 < i {
+        i -= 1;
+        best = place_of(lists, world, i).preferred(best, address);
+    }
+    best
 }

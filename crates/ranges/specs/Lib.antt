@@ -1,3 +1,4 @@
 pub mod Ranges
 pub mod Mapping
 pub mod Question
+pub mod Nested

@@ -5,11 +5,11 @@ use mathlib.Core.Path.{_≡_}
 use Prim.Native.Nat.{ℕ}
 use borrow.Author.Tests.{eq-eqb, ne-eqb}
 use Rattle.rules.specs.Choice.{pick, picked, passed}
-use Rattle.ranges.specs.Ranges.{within, meet}
-use Rattle.ranges.specs.Mapping.{exact, onRange, onPages, holds, clashes}
+use Rattle.ranges.specs.Ranges.{meet}
+use Rattle.ranges.specs.Mapping.{exact, onRange, onPages, touches, clashes}
 use Rattle.ranges.specs.declared.Mapping.{Mapping}
 use Rattle.ranges.specs.declared.Question.{Question}
-use Rattle.ranges.specs.declared.Question.the-variants.{Free, Exact, OnPages, OnRange, Holds, Clashes}
+use Rattle.ranges.specs.declared.Question.the-variants.{Free, Exact, OnPages, OnRange, Touches, Clashes}
 
 abbrev pub isFree : Mapping → Bool
 isFree m = eqb (m .size) 0
@@ -19,7 +19,7 @@ asksFree Free = true
 asksFree (Exact v s) = false
 asksFree (OnPages start count) = false
 asksFree (OnRange start size) = false
-asksFree (Holds x) = false
+asksFree (Touches start size) = false
 asksFree (Clashes n) = false
 
 unfoldable pub asks : Question → Mapping → Bool
@@ -27,7 +27,7 @@ asks Free m = false
 asks (Exact v s) m = exact v s m
 asks (OnPages start count) m = onPages start count m
 asks (OnRange start size) m = onRange start size m
-asks (Holds x) m = holds x m
+asks (Touches start size) m = touches start size m
 asks (Clashes n) m = clashes n m
 
 unfoldable pub answers : Question → Mapping → Bool
@@ -61,12 +61,12 @@ module _ (q : Question) (m : Mapping) (r : Bool) where
   unfolding asks
   asks-range start size e h = rw e h
 
-  pub asks-holds : (x : ℕ) → q ≡ Holds x → r ≡ within x (m .virt) (m .size) → r ≡ asks q m
-  unfolding asks holds
-  asks-holds x e h = rw e h
+  pub asks-touches : (start size : ℕ) → q ≡ Touches start size → r ≡ meet start size (m .virt) (m .size) → r ≡ asks q m
+  unfolding asks
+  asks-touches start size e h = rw e h
 
   pub asks-clashes : (n : Mapping) → q ≡ Clashes n → r ≡ clashes n m → r ≡ asks q m
   unfolding asks
   asks-clashes n e h = rw e h
 
-pub ruleset asking = (asks-free, asks-exact, asks-pages, asks-range, asks-holds, asks-clashes)
+pub ruleset asking = (asks-free, asks-exact, asks-pages, asks-range, asks-touches, asks-clashes)

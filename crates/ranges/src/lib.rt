@@ -3,8 +3,8 @@ ghost use mathlib.Core.Path.{_≡_};
 ghost use Prim.Native.Nat.{_+_, _*_};
 ghost use lib.Dec.{ltb};
 ghost use Rattle.rules.specs.Sizes.{pageSize, virtualLimit};
-ghost use Rattle.ranges.specs.Ranges.{within, meet};
-ghost use Rattle.ranges.specs.Mapping.{exact, onPages, clashes, malformed, beyond};
+ghost use Rattle.ranges.specs.Ranges.{within, meet, inside, level};
+ghost use Rattle.ranges.specs.Mapping.{exact, onPages, meets, insideOrAround, nested, clashes, preferred, malformed, beyond};
 ghost use Rattle.ranges.specs.Question.{asksFree, answers};
 use pages::Place;
 use pages::Window;
@@ -30,9 +30,9 @@ pub enum Question {
     OnPages { start: u64, count: u64 },
     // whether it is held, and its physical range meets this one
     OnRange { start: u64, size: u64 },
-    // whether it is held, and this virtual address lies in it
-    Holds(u64),
-    // whether it is held, and meets this mapping
+    // whether it is held, and its virtual range meets this one
+    Touches { start: u64, size: u64 },
+    // whether it is held, and this mapping may not stand beside it
     Clashes(Mapping),
 }
 
@@ -70,6 +70,36 @@ fn do_meet(a: u64, s: u64, b: u64, u: u64) -> bool
     is_within(a, b, u)
 }
 
+// Whether the u numbers from b on are all among the s numbers from a on. No sum is made, so none wraps.
+fn is_inside(b: u64, u: u64, a: u64, s: u64) -> bool
+    ensures { λ r. ⌜ r ≡ inside b u a s ⌝ }
+{
+    if b < a {
+        return false;
+    }
+    let before = b - a;
+    if s < before {
+        return false;
+    }
+    u <= s - before
+}
+
+// Whether v less p is y less q, which may be negative. No sum is made, so none wraps.
+fn is_level(v: u64, p: u64, y: u64, q: u64) -> bool
+    ensures { λ r. ⌜ r ≡ level v p y q ⌝ }
+{
+    if v <= y {
+        if q < p {
+            return false;
+        }
+        return y - v == q - p;
+    }
+    if p < q {
+        return false;
+    }
+    v - y == p - q
+}
+
 impl Question {
     // Whether a free place answers yes.
     fn asks_free(self) -> bool
@@ -80,7 +110,7 @@ impl Question {
             Question::Exact { virt: _, size: _ } => false,
             Question::OnPages { start: _, count: _ } => false,
             Question::OnRange { start: _, size: _ } => false,
-            Question::Holds(_) => false,
+            Question::Touches { start: _, size: _ } => false,
             Question::Clashes(_) => false,
         }
     }
@@ -108,13 +138,65 @@ impl Mapping {
     }
 
     // Whether the two meet, in virtual or in physical addresses.
-    fn does_clash(self, m: Mapping) -> bool
-        ensures { λ r. ⌜ r ≡ clashes self m ⌝ }
+    fn does_meet(self, m: Mapping) -> bool
+        ensures { λ r. ⌜ r ≡ meets self m ⌝ }
     {
         if do_meet(self.virt, self.size, m.virt, m.size) {
             return true;
         }
         do_meet(self.phys, self.size, m.phys, m.size)
+    }
+
+    // Whether it lies wholly inside the other, or around it.
+    fn is_in_or_around(self, m: Mapping) -> bool
+        ensures { λ r. ⌜ r ≡ insideOrAround self m ⌝ }
+    {
+        if is_inside(self.virt, self.size, m.virt, m.size) {
+            return true;
+        }
+        is_inside(m.virt, m.size, self.virt, self.size)
+    }
+
+    // Whether one of the two is a window in the other.
+    fn is_nested(self, m: Mapping) -> bool
+        ensures { λ r. ⌜ r ≡ nested self m ⌝ }
+    {
+        if is_level(self.virt, self.phys, m.virt, m.phys) {
+            if m.is_exact(self.virt, self.size) {
+                return false;
+            }
+            return self.is_in_or_around(m);
+        }
+        false
+    }
+
+    // Whether the two may not stand beside each other.
+    fn does_clash(self, m: Mapping) -> bool
+        ensures { λ r. ⌜ r ≡ clashes self m ⌝ }
+    {
+        if self.does_meet(m) {
+            if self.is_nested(m) {
+                return false;
+            }
+            return true;
+        }
+        false
+    }
+
+    // This one where it holds the address and is no larger than the best so far, else that: one of size 0 is nobody's.
+    pub fn preferred(self, best: Mapping, address: u64) -> Mapping
+        ensures { λ r. ⌜ r ≡ preferred address self best ⌝ }
+    {
+        if is_within(address, self.virt, self.size) {
+            if best.size == 0 {
+                return self;
+            }
+            if self.size <= best.size {
+                return self;
+            }
+            return best;
+        }
+        best
     }
 
     // Whether one of the three is unaligned, or the attributes are none of the three that there are.
@@ -165,7 +247,7 @@ impl Mapping {
             Question::Exact { virt, size } => self.is_exact(virt, size),
             Question::OnPages { start, count } => self.is_on_run(start, count),
             Question::OnRange { start, size } => do_meet(start, size, self.phys, self.size),
-            Question::Holds(x) => is_within(x, self.virt, self.size),
+            Question::Touches { start, size } => do_meet(start, size, self.virt, self.size),
             Question::Clashes(m) => m.does_clash(self),
         }
     }

@@ -1,13 +1,14 @@
 -- What a granted transfer says of its run, and what it leaves: the owner of each page, and the mappings of every world.
-use mathlib.Core.Path.{_≡_, refl, ap, _∙_}
+use mathlib.Core.Path.{_≡_, refl, sym, ap, _∙_}
 use mathlib.Core.Bool.{Bool, true, false, not}
 use mathlib.Core.List.{List, [], _∷_}
 use Prim.Native.Nat.{ℕ, _+_, _≤_, _<_}
 use native.Mathlib.Omega.{arith}
 use lib.Dec.{eqb}
-use borrow.Author.Tests.{eqb-false, not-false}
+use borrow.Author.Tests.{ne-eqb, eqb-false, not-false}
+use Rattle.rules.specs.Choice as Choice
 use Rattle.rules.specs.Choice.{pick, chosen, chosen-two}
-use Rattle.rules.specs.Tests.{Test, Clear, refuses, sieve, sieved, sieved-two}
+use Rattle.rules.specs.Tests.{Test, Clear, refuses, sieve, goes, ends, sieved, sieved-two}
 use Rattle.rules.specs.Reasons.{minus}
 use Rattle.rules.specs.declared.Reason.{Reason}
 use Rattle.rules.specs.declared.Reason.the-variants.{NoPages, Invalid, WrongOwner, Mapped}
@@ -52,6 +53,13 @@ module _ (w : Window) (o : List ℕ) (list : List Mapping) (from start count fir
   unfolding transferVerdict Clear
   transfer-granted g =
       let c = passes (refuses (eqb count 0) NoPages ∷ []) _ first g in (there-granted (runOf w start count) refl (c .1), eqb-false _ _ (c .0 .0))
+
+  -- and such a run is granted
+  pub movable-granted : Movable w o list from start count first → (count ≡ 0 → ⊥) → transferVerdict w o list from start count ≡ Granted first
+  unfolding transferVerdict moveTests
+  movable-granted m n =
+      sym (goes _ _ _ _ _ _ (ne-eqb count 0 n) (ends _ _ _
+      (rw (m .lies) (goes _ _ _ _ _ _ (Choice.not-false _ (m .mine)) (goes _ _ _ _ _ _ (m .unmet) (ends _ _ _ refl))))))
 
   -- ---- the owners after a transfer
   module _ (m : Movable w o list from start count first) (page : ℕ) where

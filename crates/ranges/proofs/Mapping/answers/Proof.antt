@@ -34,8 +34,8 @@ do-meet-requires c κs = search needs
 enum-known-q-4 : tie.Need-enum-known-q-4
 enum-known-q-4 c = search needs
 
-is-within-requires : tie.Need-is-within-requires
-is-within-requires c κs = search needs
+do-meet-requires-2 : tie.Need-do-meet-requires-2
+do-meet-requires-2 c κs = search needs
 
 enum-known-q-5 : tie.Need-enum-known-q-5
 enum-known-q-5 c = search needs
@@ -75,7 +75,7 @@ answers-spec =
     enum-known-q-3
     do-meet-requires
     enum-known-q-4
-    is-within-requires
+    do-meet-requires-2
     enum-known-q-5
     does-clash-requires
     returns-2

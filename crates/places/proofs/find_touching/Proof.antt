@@ -2,16 +2,16 @@
 use Prim.Native.Nat.{_-_}
 use Rattle.places.specs.Table.{places}
 use Rattle.places.specs.Found.{Searching, searching}
-use Rattle.ranges.specs.declared.Question.the-variants.{Holds}
+use Rattle.ranges.specs.declared.Question.the-variants.{Touches}
 use borrow.Author.Needs.{needs}
-use Rattle.places.proofs.find_holding.Statement.{statement}
-use Rattle.places.proofs.find_holding.Tie as tie
+use Rattle.places.proofs.find_touching.Statement.{statement}
+use Rattle.places.proofs.find_touching.Tie as tie
 
 abbrev Inv-loop : tie.InvT-loop
-Inv-loop lists world address i₀ i = Searching lists world (Holds address) i
+Inv-loop lists world start size i₀ i = Searching lists world (Touches start size) i
 
 abbrev μ-loop : tie.MeasureT-loop
-μ-loop lists world address i₀ i = places - i
+μ-loop lists world start size i₀ i = places - i
 
 loop-holds : tie.Need-loop-holds Inv-loop μ-loop
 loop-holds c = search searching
@@ -37,8 +37,8 @@ loop-again c = search searching
 returns-2 : tie.Need-returns-2 Inv-loop μ-loop
 returns-2 c = search searching
 
-pub find-holding-spec : {M : Type 1} → statement M
-find-holding-spec =
+pub find-touching-spec : {M : Type 1} → statement M
+find-touching-spec =
     tie.close
     (tie.spec
     Inv-loop
