@@ -1,9 +1,9 @@
 -- The machine after any run: why each statement about it holds.
 use mathlib.Core.Path.{_≡_, refl, sym, _∙_}
 use mathlib.Core.Bool.{true, false}
-use mathlib.Core.List.{List, [], _∷_}
+use mathlib.Core.List.{[], _∷_}
 use mathlib.Core.Logic.{inl}
-use Prim.Native.Nat.{ℕ, _+_, _-_, _≤_, _<_}
+use Prim.Native.Nat.{ℕ, _-_, _≤_, _<_}
 use native.Mathlib.Omega.{arith}
 use lib.Dec.{eqb}
 use borrow.Author.Tests.{eqb-true, eqb-false, ltb-true, ltb-false}
@@ -20,7 +20,6 @@ use Rattle.mapping.specs.Mapping.{smallestOf, deciding, leading, leadOf}
 use Rattle.mapping.specs.Entries.{Among, beside-two}
 use Rattle.mapping.specs.Sound.{Sound, sound-none}
 use Rattle.mapping.specs.Once.{Reaches, LedBy, covered-few, one-address, one-place, led, leads}
-use Rattle.ranges.specs.declared.Mapping.{Mapping}
 use Rattle.mapping.specs.declared.Lead.the-variants.{To, Nowhere}
 use Rattle.judgements.specs.Grounds.{Calls}
 use Rattle.calls.specs.Right.{Right}

@@ -268,6 +268,8 @@ module _ (m : Machine) (core : ℕ) (xs : List ℕ) where
       pub not-written : (j : ℕ) → 0 < j → j < 8 → (Is 1 0xC2000022 → x 0 ≡ 0 → j ≤ 2 → ⊥) → x j ≡ getD xs j 0
       -- These are where its address leads, by the caller's list.
       pub where-told : Is 1 0xC2000022 → x 0 ≡ 0 → leadOf (mapped m caller) (arg 1) ≡ To (x 1) (x 2)
+      -- It is granted where the address leads anywhere.
+      pub where-granted : (phys attr : ℕ) → Is 1 0xC2000022 → leadOf (mapped m caller) (arg 1) ≡ To phys attr → x 0 ≡ 0
       -- 80000000 is answered with the version of the calling convention, 84000000 from Normal with that of core power.
       pub version-told : Is 0 0x80000000 → x 0 ≡ 0x10003
       pub power-version-told : caller ≡ normal → Is 2 0x84000000 → x 0 ≡ 0x10001

@@ -26,7 +26,7 @@ use Rattle.rules.specs.Sizes.{secure, normal, mostCores}
 use Rattle.judgements.specs.Judge.{calledBy, argsOf, affirmed, found, wanted}
 use Rattle.judgements.specs.Asked.{Finishes, by-secure, by-realm, called-for, leads-asked, judged-reserved}
 use Rattle.judgements.specs.Decided.{asked-map, asked-unmap, asked-start, asked-off, asked-hand-over, asked-finish, asked-where, asked-count, asked-version, asked-power-version, asked-features, asked-power-features, asked-unknown-call, asked-barred}
-use Rattle.judgements.specs.Granted.{asked-moved, asked-mapped, asked-unmappable}
+use Rattle.judgements.specs.Granted.{asked-moved, asked-mapped, asked-unmappable, asked-led}
 use Rattle.judgements.specs.Hint.{hint-idle, hint-width, fast-key, yielding-key, Plain, asked-known, asked-unknown}
 use Rattle.judgements.specs.Grounds.{grounded}
 use Rattle.judgements.specs.declared.Answer.{Answer}
@@ -291,6 +291,7 @@ module _ (m : Machine) (fit : Fit m) (e : Event) (core : ℕ) (is : e .0 ≡ Fra
             (λ y. Left.rest-frame s core xs whole i c l j h low (λ phys attr a.
             n (leads-asked (sight s core) xs phys attr a) (rw numbers (Left.leads-zero s core xs whole i c phys attr a)) (omega (arith, leb-false 3 j y)))));
         where-told = λ a z. Left.zero-leads s core xs whole i c _ (asked-where (sight s core) xs a) (rw numbers at z) ∙ rw numbers;
+        where-granted = λ phys attr a d. rw numbers (Left.leads-zero s core xs whole i c phys attr (asked-led (sight s core) xs (may m fit e core is t) a phys attr d));
         count-told = λ a.
             let b = asked-count (sight s core) xs (may m fit e core is t) a in
             rw numbers (Effects.own-results s core xs 0 whole i c (rw b (omega arith)) ∙ rw b (on-counted m));

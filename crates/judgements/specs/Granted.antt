@@ -1,24 +1,25 @@
--- A mapping or a transfer that is asked for is judged by its verdict: where that is a grant, the call is done.
+-- A mapping or a transfer that is asked for is judged by its verdict: where that is a grant, the call is done. And where an address leads is told.
 use mathlib.Core.Path.{_≡_, refl, sym, ap, _∙_}
 use mathlib.Core.Bool.{Bool, true, false}
-use mathlib.Core.List.{List, []}
+use mathlib.Core.List.{List}
 use mathlib.Core.Logic.{_⊎_, inl, inr, ⊎-elim}
 use Prim.Native.Nat.{ℕ}
 use native.Mathlib.Omega.{arith}
 use lib.Dec.{eqb}
 use borrow.Author.Tests.{ne-eqb}
-use Rattle.rules.specs.Choice.{pick, pick-yes, pick-no, picked, passed, by, either, chosen, not-false}
-use Rattle.rules.specs.Tests.{sieve, goes, ends}
-use Rattle.rules.specs.Sizes.{secure, normal, realm}
+use Rattle.rules.specs.Choice.{pick, pick-yes, pick-no, by, either, chosen}
+use Rattle.rules.specs.Tests.{sieve}
+use Rattle.rules.specs.Sizes.{normal}
 use Rattle.rules.specs.declared.Reason.{Reason}
-use Rattle.mapping.specs.Mapping.{mapVerdict}
+use Rattle.mapping.specs.Mapping.{mapVerdict, leadOf}
+use Rattle.mapping.specs.declared.Lead.the-variants.{To}
 use Rattle.mapping.specs.declared.Verdict.{Verdict}
 use Rattle.mapping.specs.declared.Verdict.the-variants as Verdict
 use Rattle.transfers.specs.Transfer.{transferVerdict}
 use Rattle.transfers.specs.declared.Verdict.{Verdict as Moving}
 use Rattle.transfers.specs.declared.Verdict.the-variants as Moving
-use Rattle.judgements.specs.Names.{mapPages, takePages, givePages}
-use Rattle.judgements.specs.Judge.{HandlerSight, Sight, oneOf, callers, takers, wanted, calledBy, argsOf, moving, rowIn, rowOf, mayTransfer, transferring, byNumber, byRow, mapping, board, byHandler, judged}
+use Rattle.judgements.specs.Names.{mapPages, whereLeads, takePages, givePages}
+use Rattle.judgements.specs.Judge.{HandlerSight, Sight, oneOf, callers, takers, wanted, calledBy, argsOf, moving, rowIn, rowOf, mayTransfer, transferring, byNumber, byRow, mapping, leading, board, byHandler, judged}
 use Rattle.judgements.specs.Asked.{Asks, by-row, key, Reached}
 use Rattle.judgements.specs.Decided.{found-at}
 use Rattle.judgements.specs.declared.Answer.{Answer}
@@ -26,7 +27,6 @@ use Rattle.judgements.specs.declared.Answer.the-variants as Answer
 use Rattle.judgements.specs.declared.Judged.{Judged}
 use Rattle.judgements.specs.declared.Args.{Args}
 use Rattle.judgements.specs.declared.Transfer.{Transfer}
-use Rattle.judgements.specs.declared.Row.{Row}
 use Rattle.judgements.specs.declared.Row.the-variants.{Is, NoTransfer}
 
 -- ---- who may ask for a transfer: Realm for every one, Secure for those of several pages
@@ -89,6 +89,10 @@ module _ (s : HandlerSight) (a : Args) where
   unfolding rowIn byRow byNumber board pick
   map-judged h k is = rw (is .0, is .1)
 
+  where-judged : (h k : ℕ) → (h ≡ 1) × (k ≡ whereLeads) → byHandler s a k h ≡ leading (leadOf (s .own) (a .x1))
+  unfolding rowIn byRow byNumber board pick
+  where-judged h k is = rw (is .0, is .1)
+
 module _ (s : Sight) (xs : List ℕ) (may : oneOf (s .inner .caller .world) callers ≡ true) where
   abbrev args : Args
   args = argsOf (calledBy xs) xs
@@ -111,3 +115,8 @@ module _ (s : Sight) (xs : List ℕ) (may : oneOf (s .inner .caller .world) call
     pub asked-unmappable : (q : Reason) → wantVerdict (s .inner) args ≡ Verdict.No q → judged s xs .answer ≡ Answer.No q
     unfolding mapping
     asked-unmappable q e = ap (λ (j : Judged). j .answer) want-judged ∙ rw e
+
+  -- A call that asks where an address leads is told, if it leads anywhere.
+  pub asked-led : Reached s xs (λ h. (h ≡ 1) × (key xs ≡ whereLeads)) → (phys attr : ℕ) → leadOf (s .inner .own) (args .x1) ≡ To phys attr → judged s xs .answer ≡ Answer.Leads phys attr
+  unfolding leading
+  asked-led r phys attr e = ap (λ (j : Judged). j .answer) (found-at s xs may r ∙ where-judged (s .inner) args (r .number) (key xs) (r .so)) ∙ rw e

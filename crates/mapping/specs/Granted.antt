@@ -1,8 +1,8 @@
 -- Which new mappings are granted, in plain numbers: exactly those that may be made.
-use mathlib.Core.Path.{_≡_, refl, sym, ap, _∙_}
-use mathlib.Core.Bool.{true, false, not}
+use mathlib.Core.Path.{_≡_, refl, sym}
+use mathlib.Core.Bool.{true, false}
 use mathlib.Core.List.{List}
-use Prim.Native.Nat.{ℕ, _+_, _-_, _/_, _%_, _≤_, _<_}
+use Prim.Native.Nat.{ℕ, _+_, _-_, _/_, _≤_, _<_}
 use native.Mathlib.Omega.{arith}
 use lib.Dec.{eqb}
 use lib.ListN.{length}
@@ -11,7 +11,7 @@ use Rattle.rules.specs.Choice.{either, neither, not-false, passed}
 use Rattle.rules.specs.Tests.{stops, goes, ends}
 use Rattle.rules.specs.Sizes.{pageSize, mostMappings, lastWorld, lastAttributes}
 use Rattle.rules.specs.declared.Reason.the-variants.{Overlap}
-use Rattle.pages.specs.Window.{acceptable, accepted, pagesTo, HoldsRun, run-yes}
+use Rattle.pages.specs.Window.{acceptable, accepted, pagesTo, run-yes}
 use Rattle.pages.specs.Owners.{owner, owned, Packed, owned-if}
 use Rattle.pages.specs.declared.Window.{Window}
 use Rattle.pages.specs.declared.Place.the-variants.{Page}

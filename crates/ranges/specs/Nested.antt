@@ -1,6 +1,6 @@
 -- Two mappings of one world: exactly when they may stand beside each other, in plain numbers.
 use mathlib.Core.Path.{_≡_, refl, sym, _∙_}
-use mathlib.Core.Bool.{Bool, true, false, not, _&&_, _||_}
+use mathlib.Core.Bool.{Bool, true, false, not, _||_}
 use mathlib.Core.Logic.{_⊎_, inl, inr, ⊎-elim}
 use Prim.Native.Nat.{ℕ, _+_, _≤_, _<_}
 use native.Mathlib.Omega.{arith}
@@ -8,7 +8,7 @@ use lib.Dec.{ltb, eqb}
 use borrow.Author.Tests.{eq-eqb, ne-eqb, eqb-true, eqb-false, ltb-true, ltb-false, not-true}
 use Rattle.rules.specs.Choice.{either, both-true, left-true, right-true, left-false, right-false, first-or, second-or, neither, not-first, not-second, yes-or-no}
 use Rattle.rules.specs.Choice as Choice
-use Rattle.ranges.specs.Ranges.{within, meet, inside, level, within-low, within-high, inside-low, inside-high, inside-if, level-is, level-if, meet-sym, meet-if, meet-apart, apart-meet}
+use Rattle.ranges.specs.Ranges.{meet, inside, level, within-low, within-high, inside-low, inside-high, inside-if, level-is, level-if, meet-sym, meet-if, meet-apart, apart-meet}
 use Rattle.ranges.specs.Mapping.{exact, holds, meets, insideOrAround, nested, clashes}
 use Rattle.ranges.specs.declared.Mapping.{Mapping}
 
