@@ -1,13 +1,13 @@
 -- The mappings that each world holds, how one is put among them and how one is taken out. Shut: the laws say the rest.
 use mathlib.Core.Path.{_≡_, refl, sym, ap, _∙_}
-use mathlib.Core.Bool.{true, false, _&&_}
+use mathlib.Core.Bool.{Bool, true, false, _&&_}
 use mathlib.Core.List.{List, []}
 use mathlib.Core.Option.{Option, none, some}
 use Prim.Native.Nat.{ℕ, _+_, _-_, _*_, _%_, _^_, _≤_, _<_}
 use native.Mathlib.Omega.{arith}
 use lib.Dec.{ltb, eqb}
 use lib.ListN.{length}
-use borrow.Author.Tests.{lt-ltb, le-ltb, le-leb, lt-leb, ne-eqb, eq-eqb, eqb-true, eqb-false, ltb-true, ltb-false}
+use borrow.Author.Tests.{le-leb, lt-leb, ne-eqb, eq-eqb, eqb-true, eqb-false, ltb-true, ltb-false}
 use Rattle.rules.specs.Choice.{either, both-true, left-true, right-true, yes-or-no}
 use Rattle.rules.specs.Sizes.{worlds, pageSize, mostMappings}
 use Rattle.mapping.specs.Mapping.{onPages, anyOf, clash, isFull, hasExactly, meetsRun, touched, deciding, decidedBy, leading, leadOf, without}
@@ -15,9 +15,9 @@ use Rattle.mapping.specs.Entries.{Inserted, without-missing}
 use Rattle.mapping.specs.Deciding.{deciding-low}
 use Rattle.ranges.specs.Question.{asksFree, asks, answers}
 use Rattle.tools.specs.Search.{first}
-use Rattle.mapping.specs.Places.{gathered, lowest, lowest-any, lowest-none, lowest-free, heldAt, here-none, here-some, smallest-gathered, room-left, none-left, filled-in, removed, gathered-same, gathered-none, gathered-some}
+use Rattle.mapping.specs.Places.{gathered, lowest, lowest-any, lowest-none, lowest-free, gathered-clash, heldAt, here-none, here-some, smallest-gathered, room-left, none-left, filled-in, removed, gathered-same, gathered-none, gathered-some}
 pub use Rattle.places.specs.Table.{unmapped, WholeLists, unmapped-whole, place}
-use Rattle.places.specs.Found.{found}
+use Rattle.places.specs.Found.{found, clashed}
 use Rattle.places.specs.Decider.{decider}
 use Rattle.places.specs.Table.{blank, stored, stored-whole, stored-same, stored-other, place-no-world, stored-no-world, stored-no-place, unmapped-blank}
 use Rattle.ranges.specs.declared.Mapping.{Mapping}
@@ -25,7 +25,7 @@ use Rattle.mapping.specs.declared.Decider.{Decider}
 use Rattle.mapping.specs.declared.Decider.the-variants.{By, Nobody}
 use Rattle.mapping.specs.declared.Lead.the-variants.{To, Nowhere}
 use Rattle.ranges.specs.declared.Question.{Question}
-use Rattle.ranges.specs.declared.Question.the-variants.{Free, Exact, OnPages, OnRange, Touches, Clashes}
+use Rattle.ranges.specs.declared.Question.the-variants.{Free, Exact, OnPages, OnRange, Touches}
 
 -- the mappings that the world holds, in the order of their places
 pub held : List ℕ → ℕ → List Mapping
@@ -61,17 +61,6 @@ module _ (t : List ℕ) (w k : ℕ) where
   unfolding asksFree asks meetsRun onPages
   meets-bytes a n s e f = rw (e, f) (found-any t w (OnRange a (n * pageSize)) refl)
 
-  module _ (m : Mapping) (e : k ≡ found t w (Clashes m)) where
-    clash-is : ltb k mostMappings ≡ clash (held t w) m
-    unfolding asksFree asks clash
-    clash-is = rw e (found-any t w (Clashes m) refl)
-
-    pub clash-yes : k < mostMappings → clash (held t w) m ≡ true
-    clash-yes h = sym clash-is ∙ lt-ltb k mostMappings h
-
-    pub clash-no : mostMappings ≤ k → clash (held t w) m ≡ false
-    clash-no h = sym clash-is ∙ le-ltb k mostMappings h
-
   module _ (e : k ≡ found t w Free) where
     pub full-yes : mostMappings ≤ k → isFull (held t w) ≡ true
     unfolding found lowest held isFull
@@ -92,6 +81,18 @@ module _ (t : List ℕ) (w k : ℕ) where
   pub released-is : (v s : ℕ) (m : Mapping) (t′ : List ℕ) → k ≡ found t w (Exact v s) → m ≡ blank → t′ ≡ stored t w k m → t′ ≡ released t w v s
   unfolding released
   released-is v s m t′ e g f = rw (← e, ← g) f
+
+-- ---- a place that clashes is one of the list that does
+module _ (t : List ℕ) (w : ℕ) (m : Mapping) (r : Bool) (e : r ≡ clashed t w m) where
+  clash-is : r ≡ clash (held t w) m
+  unfolding clashed held clash
+  clash-is = e ∙ sym (gathered-clash (place t w) m 0 mostMappings)
+
+  pub clash-yes : r ≡ true → clash (held t w) m ≡ true
+  clash-yes h = sym clash-is ∙ h
+
+  pub clash-no : r ≡ false → clash (held t w) m ≡ false
+  clash-no h = sym clash-is ∙ h
 
 -- ---- the smallest that the places have is the one that decides
 decider-is : (t : List ℕ) (w x : ℕ) → heldAt (decider t w x) ≡ deciding (held t w) x

@@ -61,7 +61,7 @@ pub fn judge_map(lists: &Lists, owners: &Owners, w: Window, world: u64, m: Mappi
     if MOST_MAPPINGS <= places::find_free(lists, world) {
         return Verdict::No(Reason::Full);
     }
-    if places::find_clashing(lists, world, m) < MOST_MAPPINGS {
+    if places::any_clash(lists, world, m) {
         return Verdict::No(Reason::Overlap);
     }
     if is_owned(owners, w, world, m) {

@@ -1,11 +1,11 @@
--- The lowest place of a world that answers a question, and the search for it.
+-- The lowest place of a world that answers a question, whether one clashes with a new mapping, and the searches for them.
 use mathlib.Core.Path.{_≡_, refl}
 use mathlib.Core.Bool.{Bool, true, false}
 use mathlib.Core.List.{List}
 use Prim.Native.Nat.{ℕ, _+_, _-_, _≤_, _<_}
 use native.Mathlib.Omega.{arith}
-use Rattle.tools.specs.Search.{first, first-goes, first-stops, first-ends}
-use Rattle.ranges.specs.Question.{answers}
+use Rattle.tools.specs.Search.{first, first-goes, first-stops, first-ends, any, any-goes, any-stops, any-ends}
+use Rattle.ranges.specs.Question.{answers, clashing}
 use Rattle.ranges.specs.declared.Mapping.{Mapping}
 use Rattle.ranges.specs.declared.Question.{Question}
 use Rattle.places.specs.Table.{places, place}
@@ -45,3 +45,34 @@ module _ (t : List ℕ) (w : ℕ) (q : Question) (i : ℕ) (s : Searching t w q 
   searching-ends h = first-ends _ _ _ _ (s .rest) (omega arith)
 
 pub ruleset searching = (searching-starts, searching-goes, searching-stops, searching-ends)
+
+-- ---- a place is held that the new mapping may not stand beside
+unfoldable pub clashed : List ℕ → ℕ → Mapping → Bool
+clashed t w n = any (λ (i : ℕ). clashing n (place t w i)) 0 places
+
+-- the places below i do not clash
+pub record Clearing (t : List ℕ) (w : ℕ) (n : Mapping) (i : ℕ) : Type 0 where
+  pub most : i ≤ places
+  pub rest : clashed t w n ≡ any (λ (i : ℕ). clashing n (place t w i)) i (places - i)
+
+pub clearing-starts : (t : List ℕ) (w : ℕ) (n : Mapping) → Clearing t w n 0
+unfolding clashed
+clearing-starts t w n = record { most = omega arith; rest = refl }
+
+module _ (t : List ℕ) (w : ℕ) (n : Mapping) (i : ℕ) (s : Clearing t w n i) where
+  module _ (m : Mapping) (r : Bool) (read : m ≡ place t w i) (said : r ≡ clashing n m) (h : i < places) where
+    told : (b : Bool) → r ≡ b → clashing n (place t w i) ≡ b
+    told b e = rw (← read, ← said) e
+
+    pub clearing-goes : r ≡ false → Clearing t w n (i + 1)
+    clearing-goes e =
+        let z : places - (i + 1) ≡ places - i - 1 = omega arith in
+        record { most = omega arith; rest = rw z (any-goes _ _ _ _ (s .rest) (omega arith) (told false e)) }
+
+    pub clearing-stops : r ≡ true → true ≡ clashed t w n
+    clearing-stops e = any-stops _ _ _ _ (s .rest) (omega arith) (told true e)
+
+  pub clearing-ends : places ≤ i → false ≡ clashed t w n
+  clearing-ends h = any-ends _ _ _ _ (s .rest) (omega arith)
+
+pub ruleset clearing = (clearing-starts, clearing-goes, clearing-stops, clearing-ends)

@@ -1,9 +1,9 @@
 // Each world's sixteen places, free or held, in one table that the caller lends. Where there is no such world or place, reading
 // gives a free one and writing changes nothing.
 ghost use mathlib.Core.Path.{_≡_};
-ghost use Rattle.ranges.specs.declared.Question.the-variants.{Free, Exact, OnPages, OnRange, Touches, Clashes};
+ghost use Rattle.ranges.specs.declared.Question.the-variants.{Free, Exact, OnPages, OnRange, Touches};
 ghost use Rattle.places.specs.Table.{blank, unmapped, place, stored};
-ghost use Rattle.places.specs.Found.{found};
+ghost use Rattle.places.specs.Found.{found, clashed};
 ghost use Rattle.places.specs.Decider.{decider};
 use ranges::Mapping;
 use ranges::Question;
@@ -99,20 +99,6 @@ pub fn find_exact(lists: &Lists, world: u64, virt: u64, size: u64) -> u64
     i
 }
 
-// The lowest place that is held and that this mapping may not stand beside.
-pub fn find_clashing(lists: &Lists, world: u64, m: Mapping) -> u64
-    ensures { λ r. ⌜ r ≡ found (now (lists .entry)) world (Clashes m) ⌝ }
-{
-    let mut i = 0;
-    while i < MOST_MAPPINGS {
-        if place_of(lists, world, i).answers(Question::Clashes(m)) {
-            return i;
-        }
-        i += 1;
-    }
-    i
-}
-
 // The lowest place that is held, with a physical range that meets this one.
 pub fn find_range(lists: &Lists, world: u64, start: u64, size: u64) -> u64
     ensures { λ r. ⌜ r ≡ found (now (lists .entry)) world (OnRange start size) ⌝ }
@@ -153,6 +139,20 @@ pub fn find_touching(lists: &Lists, world: u64, start: u64, size: u64) -> u64
         i += 1;
     }
     i
+}
+
+// Whether a place is held that this mapping may not stand beside.
+pub fn any_clash(lists: &Lists, world: u64, m: Mapping) -> bool
+    ensures { λ r. ⌜ r ≡ clashed (now (lists .entry)) world m ⌝ }
+{
+    let mut i = 0;
+    while i < MOST_MAPPINGS {
+        if place_of(lists, world, i).is_clashing(m) {
+            return true;
+        }
+        i += 1;
+    }
+    false
 }
 
 // The smallest mapping of the world that holds the virtual address, that of the lowest place of two of one size; blank where none

@@ -1,7 +1,7 @@
 -- What the code asks of a place, and what the place answers: the tests of Mapping, asked only of a place that is held.
 use mathlib.Core.Bool.{Bool, true, false}
 use lib.Dec.{eqb}
-use mathlib.Core.Path.{_≡_}
+use mathlib.Core.Path.{_≡_, refl}
 use Prim.Native.Nat.{ℕ}
 use borrow.Author.Tests.{eq-eqb, ne-eqb}
 use Rattle.rules.specs.Choice.{pick, picked, passed}
@@ -9,7 +9,7 @@ use Rattle.ranges.specs.Ranges.{meet}
 use Rattle.ranges.specs.Mapping.{exact, onRange, onPages, touches, clashes}
 use Rattle.ranges.specs.declared.Mapping.{Mapping}
 use Rattle.ranges.specs.declared.Question.{Question}
-use Rattle.ranges.specs.declared.Question.the-variants.{Free, Exact, OnPages, OnRange, Touches, Clashes}
+use Rattle.ranges.specs.declared.Question.the-variants.{Free, Exact, OnPages, OnRange, Touches}
 
 abbrev pub isFree : Mapping → Bool
 isFree m = eqb (m .size) 0
@@ -20,7 +20,6 @@ asksFree (Exact v s) = false
 asksFree (OnPages start count) = false
 asksFree (OnRange start size) = false
 asksFree (Touches start size) = false
-asksFree (Clashes n) = false
 
 unfoldable pub asks : Question → Mapping → Bool
 asks Free m = false
@@ -28,7 +27,6 @@ asks (Exact v s) m = exact v s m
 asks (OnPages start count) m = onPages start count m
 asks (OnRange start size) m = onRange start size m
 asks (Touches start size) m = touches start size m
-asks (Clashes n) m = clashes n m
 
 unfoldable pub answers : Question → Mapping → Bool
 answers q m = pick (isFree m) (asksFree q) (asks q m)
@@ -65,8 +63,19 @@ module _ (q : Question) (m : Mapping) (r : Bool) where
   unfolding asks
   asks-touches start size e h = rw e h
 
-  pub asks-clashes : (n : Mapping) → q ≡ Clashes n → r ≡ clashes n m → r ≡ asks q m
-  unfolding asks
-  asks-clashes n e h = rw e h
+pub ruleset asking = (asks-free, asks-exact, asks-pages, asks-range, asks-touches)
 
-pub ruleset asking = (asks-free, asks-exact, asks-pages, asks-range, asks-touches, asks-clashes)
+-- ---- a place that is held, and that a new mapping may not stand beside
+unfoldable pub clashing : Mapping → Mapping → Bool
+clashing n m = pick (isFree m) false (clashes n m)
+
+module _ (n m : Mapping) where
+  pub clashing-free : m .size ≡ 0 → false ≡ clashing n m
+  unfolding clashing
+  clashing-free h = picked _ _ _ _ (eq-eqb _ _ h) refl
+
+  pub clashing-held : (r : Bool) → (m .size ≡ 0 → ⊥) → r ≡ clashes n m → r ≡ clashing n m
+  unfolding clashing
+  clashing-held r h e = passed _ _ _ _ (ne-eqb _ _ h) e
+
+pub ruleset clashings = (clashing-free, clashing-held)

@@ -5,7 +5,7 @@ ghost use lib.Dec.{ltb};
 ghost use Rattle.rules.specs.Sizes.{pageSize, virtualLimit};
 ghost use Rattle.ranges.specs.Ranges.{within, meet, inside, level};
 ghost use Rattle.ranges.specs.Mapping.{exact, onPages, meets, insideOrAround, nested, clashes, preferred, malformed, beyond};
-ghost use Rattle.ranges.specs.Question.{asksFree, answers};
+ghost use Rattle.ranges.specs.Question.{asksFree, answers, clashing};
 use pages::Place;
 use pages::Window;
 use rules::LAST_ATTRIBUTES;
@@ -32,8 +32,6 @@ pub enum Question {
     OnRange { start: u64, size: u64 },
     // whether it is held, and its virtual range meets this one
     Touches { start: u64, size: u64 },
-    // whether it is held, and this mapping may not stand beside it
-    Clashes(Mapping),
 }
 
 // Whether x is one of the `size` numbers from `start` on. No sum is made, so none wraps.
@@ -111,7 +109,6 @@ impl Question {
             Question::OnPages { start: _, count: _ } => false,
             Question::OnRange { start: _, size: _ } => false,
             Question::Touches { start: _, size: _ } => false,
-            Question::Clashes(_) => false,
         }
     }
 }
@@ -183,6 +180,17 @@ impl Mapping {
         false
     }
 
+    // Whether this place is held, and the mapping may not stand beside it. It is no question, since with it a search for any other
+    // question would be too long to be compiled as one piece.
+    pub fn is_clashing(self, m: Mapping) -> bool
+        ensures { λ r. ⌜ r ≡ clashing m self ⌝ }
+    {
+        if self.size == 0 {
+            return false;
+        }
+        m.does_clash(self)
+    }
+
     // This one where it holds the address and is no larger than the best so far, else that: one of size 0 is nobody's.
     pub fn preferred(self, best: Mapping, address: u64) -> Mapping
         ensures { λ r. ⌜ r ≡ preferred address self best ⌝ }
@@ -248,7 +256,6 @@ impl Mapping {
             Question::OnPages { start, count } => self.is_on_run(start, count),
             Question::OnRange { start, size } => do_meet(start, size, self.phys, self.size),
             Question::Touches { start, size } => do_meet(start, size, self.virt, self.size),
-            Question::Clashes(m) => m.does_clash(self),
         }
     }
 }

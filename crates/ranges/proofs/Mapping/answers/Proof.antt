@@ -37,12 +37,6 @@ enum-known-q-4 c = search needs
 do-meet-requires-2 : tie.Need-do-meet-requires-2
 do-meet-requires-2 c κs = search needs
 
-enum-known-q-5 : tie.Need-enum-known-q-5
-enum-known-q-5 c = search needs
-
-does-clash-requires : tie.Need-does-clash-requires
-does-clash-requires c κs = search needs
-
 returns-2 : tie.Need-returns-2
 returns-2 c = answers-held _ _ _ (search needs) (search asking)
 
@@ -57,9 +51,6 @@ returns-5 c = answers-held _ _ _ (search needs) (search asking)
 
 returns-6 : tie.Need-returns-6
 returns-6 c = answers-held _ _ _ (search needs) (search asking)
-
-returns-7 : tie.Need-returns-7
-returns-7 c = answers-held _ _ _ (search needs) (search asking)
 
 pub answers-spec : {M : Type 1} → statement M
 answers-spec =
@@ -76,11 +67,8 @@ answers-spec =
     do-meet-requires
     enum-known-q-4
     do-meet-requires-2
-    enum-known-q-5
-    does-clash-requires
     returns-2
     returns-3
     returns-4
     returns-5
-    returns-6
-    returns-7)
+    returns-6)

@@ -1,29 +1,28 @@
--- No place that the loop has passed answers.
+-- No place that the loop has passed clashes.
 use Prim.Native.Nat.{_-_}
 use Rattle.places.specs.Table.{places}
-use Rattle.places.specs.Found.{Searching, searching}
-use Rattle.ranges.specs.declared.Question.the-variants.{Clashes}
+use Rattle.places.specs.Found.{Clearing, clearing}
 use borrow.Author.Needs.{needs}
-use Rattle.places.proofs.find_clashing.Statement.{statement}
-use Rattle.places.proofs.find_clashing.Tie as tie
+use Rattle.places.proofs.any_clash.Statement.{statement}
+use Rattle.places.proofs.any_clash.Tie as tie
 
 abbrev Inv-loop : tie.InvT-loop
-Inv-loop lists world m i₀ i = Searching lists world (Clashes m) i
+Inv-loop lists world m i₀ i = Clearing lists world m i
 
 abbrev μ-loop : tie.MeasureT-loop
 μ-loop lists world m i₀ i = places - i
 
 loop-holds : tie.Need-loop-holds Inv-loop μ-loop
-loop-holds c = search searching
+loop-holds c = search clearing
 
 place-of-requires : tie.Need-place-of-requires Inv-loop μ-loop
 place-of-requires c κs = search needs
 
-answers-requires : tie.Need-answers-requires Inv-loop μ-loop
-answers-requires c κs = search needs
+is-clashing-requires : tie.Need-is-clashing-requires Inv-loop μ-loop
+is-clashing-requires c κs = search needs
 
 returns : tie.Need-returns Inv-loop μ-loop
-returns c = search searching
+returns c = search clearing
 
 add-i : tie.Need-add-i Inv-loop μ-loop
 add-i c = search needs
@@ -32,20 +31,20 @@ loop-less : tie.Need-loop-less Inv-loop μ-loop
 loop-less c = search needs
 
 loop-again : tie.Need-loop-again Inv-loop μ-loop
-loop-again c = search searching
+loop-again c = search clearing
 
 returns-2 : tie.Need-returns-2 Inv-loop μ-loop
-returns-2 c = search searching
+returns-2 c = search clearing
 
-pub find-clashing-spec : {M : Type 1} → statement M
-find-clashing-spec =
+pub any-clash-spec : {M : Type 1} → statement M
+any-clash-spec =
     tie.close
     (tie.spec
     Inv-loop
     μ-loop
     loop-holds
     place-of-requires
-    answers-requires
+    is-clashing-requires
     returns
     add-i
     loop-less
