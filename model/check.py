@@ -1,8 +1,8 @@
 #!/usr/bin/env python3
 """The machine of document 01, small and slow: a second opinion on monitor.c."""
 
+import os
 import string
-import sys
 
 PAGE = 4096
 ROOT, SECURE, NORMAL, REALM = range(4)
@@ -281,13 +281,18 @@ class Machine:
         expect(aligned and attributes in (0, 1, 2), Refusal(-22))
         expect(self.within(physical, size) and virtual + size <= 2**32, Refusal(-34))
         expect(len(self.maps[caller]) < 16, Refusal(-12))
-        wanted = set(range(virtual, virtual + size, PAGE))
-        taken = {v for start, held, _, _ in self.maps[caller] for v in range(start, start + held, PAGE)}
-        span = self.span(physical, size)
-        expect(not wanted & taken and self.mapped(caller).isdisjoint(span), Refusal(-1))
-        expect(all(self.owners[page] == caller for page in span), Refusal(-13))
-        self.maps[caller].append((virtual, size, physical, attributes))
+        wanted = (virtual, size, physical, attributes)
+        expect(all(self.fit(wanted, held) for held in self.maps[caller]), Refusal(-1))
+        expect(all(self.owners[page] == caller for page in self.span(physical, size)), Refusal(-13))
+        self.maps[caller].append(wanted)
         return [0]
+
+    def fit(self, one, other):
+        """No page in common, virtual or physical; or every page of one leads where it does in the other, which has more."""
+        ways = [{(start + at, to + at) for at in range(0, size, PAGE)} for start, size, to, _ in (one, other)]
+        if ways[0] < ways[1] or ways[1] < ways[0]:
+            return True
+        return all({way[end] for way in ways[0]}.isdisjoint(way[end] for way in ways[1]) for end in (0, 1))
 
     def unmap(self, core, caller, virtual, size, *_):
         keep = [m for m in self.maps[caller] if m[:2] != (virtual, size)]
@@ -296,12 +301,13 @@ class Machine:
         return [0]
 
     def where(self, core, caller, x1, *_):
-        for start, size, to, attributes in self.maps[caller]:
+        for start, size, to, attributes in sorted(self.maps[caller], key=lambda held: held[1]):
             if start <= x1 < start + size:
                 return [0, to + x1 - start, attributes]
         raise Refusal(-14)
 
 
 if __name__ == "__main__":
-    for answer in Machine().run(sys.stdin.buffer.read()):
+    pieces = iter(lambda: os.read(0, 1 << 16), b"")  # each as it was written: a shorter read of it would lose the rest
+    for answer in Machine().run(b"".join(pieces)):
         print(answer)

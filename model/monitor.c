@@ -88,6 +88,25 @@ static bool overlap(uint64_t a, uint64_t a_size, uint64_t b, uint64_t b_size)
     return a < b ? b - a < a_size : a - b < b_size;
 }
 
+// Does the first range hold the second one whole?
+static bool around(uint64_t a, uint64_t a_size, uint64_t b, uint64_t b_size)
+{
+    return a <= b && b - a < a_size && b_size <= a_size - (b - a);
+}
+
+// Two mappings of a world may stand together when they have no address in common, or when one lies
+// inside the other with virtual less physical equal in both, and their ranges differ.
+static bool may_stand(const struct mapping *a, const struct mapping *b)
+{
+    if (!overlap(a->virtual, a->size, b->virtual, b->size) && !overlap(a->physical, a->size, b->physical, b->size))
+        return true;
+    if (a->virtual + b->physical != b->virtual + a->physical)  // sums below 2^49
+        return false;
+    if (a->virtual == b->virtual && a->size == b->size)
+        return false;
+    return around(a->virtual, a->size, b->virtual, b->size) || around(b->virtual, b->size, a->virtual, a->size);
+}
+
 static bool any_mapped(enum world world, uint64_t start, uint64_t size)
 {
     for (unsigned i = 0; i < held[world]; i++)
@@ -109,14 +128,13 @@ static int64_t map(enum world caller, uint64_t physical, uint64_t virtual, uint6
         return -34;
     if (held[caller] == MOST_MAPPINGS)
         return -12;
+    struct mapping wanted = {virtual, physical, size, attributes};
     for (unsigned i = 0; i < held[caller]; i++)
-        if (overlap(mappings[caller][i].virtual, mappings[caller][i].size, virtual, size))
+        if (!may_stand(&mappings[caller][i], &wanted))
             return -1;
-    if (any_mapped(caller, physical, size))
-        return -1;
     if (!owns_all(caller, physical, size / PAGE))
         return -13;
-    mappings[caller][held[caller]++] = (struct mapping){virtual, physical, size, attributes};
+    mappings[caller][held[caller]++] = wanted;
     return 0;
 }
 
@@ -131,18 +149,21 @@ static int64_t unmap(enum world caller, uint64_t virtual, uint64_t size)
     return -22;
 }
 
-// Where a virtual address leads: x1 and x2 are written on success only.
+// Where a virtual address leads: the smallest mapping that holds it decides, and x1 and x2 are
+// written on success only.
 static int64_t where(enum world caller, uint64_t *x)
 {
+    const struct mapping *decider = NULL;
     for (unsigned i = 0; i < held[caller]; i++) {
         const struct mapping *m = &mappings[caller][i];
-        if (x[1] >= m->virtual && x[1] - m->virtual < m->size) {
-            x[1] = m->physical + (x[1] - m->virtual);
-            x[2] = m->attributes;
-            return 0;
-        }
+        if (x[1] >= m->virtual && x[1] - m->virtual < m->size && (decider == NULL || m->size < decider->size))
+            decider = m;
     }
-    return -14;
+    if (decider == NULL)
+        return -14;
+    x[1] = decider->physical + (x[1] - decider->virtual);
+    x[2] = decider->attributes;
+    return 0;
 }
 
 // ---- transfers ----

@@ -31,6 +31,7 @@ class Run:
         self.stay = rng.choice([2, 8, 30])  # calls between a hand-over and its finish
         self.keep = rng.choice([1, 4, 15])  # mappings made for each one removed
         self.haste = rng.choice([0.03, 0.1, 0.3])  # how soon a pending core arrives
+        self.nest = rng.choice([0.1, 0.5, 0.9])  # mappings drawn from the place of one that is held
 
     # Small choices.
 
@@ -122,7 +123,7 @@ class Run:
 
     def page_spans(self):
         rng, at, spans = self.rng, 0, []
-        longest = rng.choice([2, 8, 40, self.pages])
+        longest = rng.choice([2 if self.nest < 0.5 else 20, 8, 40, self.pages])
         while at < self.pages and len(spans) < 40:
             count = min(self.pages - at, rng.randint(1, longest))
             owner = self.weighted([(NORMAL, 10), (SECURE, 4), (REALM, 4), (0, 1), (None, 1)])
@@ -225,7 +226,8 @@ class Run:
         longest = 1
         while first + longest < len(owners) and owners[first + longest] == world and first + longest not in busy:
             longest += 1
-        return first, min(longest, self.weighted([(1, 6), (2, 3), (3, 1), (rng.randint(1, longest), 2), (longest, 1)]))
+        some = rng.randint(1, longest)
+        return first, min(longest, self.weighted([(1, 6), (2, 3), (3, 1), (some, 1 + 20 * self.nest), (longest, 1 + 5 * self.nest)]))
 
     def mapping(self, world):
         """A mapping of this world, or of another one now and then, or an invented one."""
@@ -233,8 +235,25 @@ class Run:
         held = self.machine.maps[self.rng.choice(worlds)]
         return self.rng.choice(held) if held else (PAGE * self.rng.randrange(64), PAGE, self.base, 0)
 
+    def nested_arguments(self, held):
+        """Inside, around, flush with, equal to, across or beside a mapping that is held, and now and then shifted against it."""
+        rng = self.rng
+        virtual, size, physical, _ = held
+        pages = size // PAGE
+        first = rng.choice([0, rng.randrange(pages)])
+        end = rng.choice([pages, rng.randint(first + 1, pages)])
+        more, less = rng.randrange(3), rng.randrange(3)
+        first, end = self.weighted([((first, end), min(pages, 6)), ((-less, pages + more), 3), ((first, pages + more), 1), ((-less, end), 1),
+                                    ((pages, pages + 1 + more), 1), ((-1 - less, 0), 1)])
+        shift = self.weighted([(0, 10), (1, 1), (-1, 1), (pages, 1), (rng.randrange(self.pages), 1)]) * PAGE
+        to, at = rng.choice([(shift, 0), (0, shift), (shift, -shift)])
+        return [(physical + first * PAGE + to) % TOP, (virtual + first * PAGE + at) % TOP, (end - first) * PAGE, rng.randrange(3)]
+
     def map_arguments(self, world):
         rng = self.rng
+        if self.machine.maps[world] and self.chance(self.nest):
+            held = rng.choices(self.machine.maps[world], k=3)
+            return self.nested_arguments(max(held, key=lambda mapping: mapping[1]))
         first, count = self.span(world, world if self.chance(0.85) else None)
         size = count * PAGE
         physical = self.base + first * PAGE

@@ -166,12 +166,14 @@ def map_refusals(s, who, own, other):
 
 
 def overlaps(s, who, own, other):
-    s.part(f"{who}: a mapping of two pages; -1 for any overlap, virtual or physical, also with another's page; where leads to both ends; unmap wants the exact pair")
+    s.part(f"{who}: a mapping of two pages; -1 for an overlap, virtual or physical, also with another's page, and 0 for one that lies around it; where leads to both ends; unmap wants the exact pair")
     s.call(who, 0, 0xC2000020, own + P, 5 * P, 2 * P, 1)
     for physical, virtual, size in (
             (own + P, 9 * P, P), (own, 9 * P, 2 * P), (own + 2 * P, 9 * P, P), (own, 9 * P, 4 * P), (own, 5 * P, P),
-            (own, 6 * P, P), (own, 4 * P, 4 * P), (other, 6 * P, P), (own + P, 5 * P, 2 * P)):
+            (own, 6 * P, P), (other, 6 * P, P), (own + P, 5 * P, 2 * P)):
         s.call(who, -1, 0xC2000020, physical, virtual, size, 0)
+    s.call(who, 0, 0xC2000020, own, 4 * P, 4 * P, 0)
+    s.call(who, 0, 0xC2000021, 4 * P, 4 * P)
     s.call(who, (0, own + P, 1), 0xC2000022, 5 * P)
     s.call(who, (0, own + 3 * P - 1, 1), 0xC2000022, 7 * P - 1)
     for address in (5 * P - 1, 7 * P, 5 * P + 2**32, own + P):
