@@ -1,0 +1,72 @@
+-- `write_row` meets its promise, since each pass lays one entry behind those before it.
+use mathlib.Core.Path.{_≡_, ap, _∙_}
+use Prim.Native.Nat.{_+_, _-_, _*_, _≤_, _<_}
+use native.Mathlib.Omega.{arith}
+use lib.ListN.{length}
+use Rattle.tools.specs.Laid.{laid, length-laid}
+use Rattle.mapping.specs.Lists.{held}
+use Rattle.layout.specs.Layout as Layout
+use Rattle.layout.specs.Rows.{rows}
+use Rattle.building.specs.Writing.{row-starts, row-goes, row-ends, next-starts, next-fits, next-goes, part-inside, sum-fits}
+use borrow.Author.Needs.{needs}
+use Rattle.building.proofs.write_row.Statement.{statement}
+use Rattle.building.proofs.write_row.Tie as tie
+
+abbrev Inv-loop : tie.InvT-loop
+Inv-loop numbers₀ lists world level a t next₀ i₀ numbers next i = (i ≤ 512) × (numbers ≡ laid numbers₀ (512 * t) (rows (Layout.entryAt (held lists world) level a t) i)) × (next ≡ Layout.next (held lists world) level a t i)
+
+abbrev μ-loop : tie.MeasureT-loop
+μ-loop numbers₀ lists world level a t next₀ i₀ numbers next i = 512 - i
+
+add-next : tie.Need-add-next Inv-loop μ-loop
+add-next c = omega (arith, c .before .pre .most)
+
+loop-holds : tie.Need-loop-holds Inv-loop μ-loop
+loop-holds c = (search needs, row-starts _ _ _ _ _, next-starts _ _ _ _)
+
+part-of-requires : tie.Need-part-of-requires Inv-loop μ-loop
+part-of-requires c κs = (c .before .before .before .pre .room, search needs)
+
+mul-entry-of : tie.Need-mul-entry-of Inv-loop μ-loop
+mul-entry-of c = let h : c .before .before .loop .i < 512 = omega arith in omega (arith, next-fits _ _ _ _ _ _ (c .before .before .loop .inv .2) (c .before .before .before .before .pre) h)
+
+entry-of-requires : tie.Need-entry-of-requires Inv-loop μ-loop
+entry-of-requires c κs = search needs
+
+mul-put : tie.Need-mul-put Inv-loop μ-loop
+mul-put c = omega (arith, c .before .before .before .before .before .before .pre .most)
+
+add-put : tie.Need-add-put Inv-loop μ-loop
+add-put c = omega (arith, c .before .before .before .before .before .before .pre .most)
+
+put-requires : tie.Need-put-requires Inv-loop μ-loop
+put-requires c κs = search needs
+
+below-of-requires : tie.Need-below-of-requires Inv-loop μ-loop
+below-of-requires c κs = let h : c .before .before .before .before .before .before .before .loop .i < 512 = omega arith in part-inside _ _ _ (c .before .before .before .before .before .before .before .before .before .pre .room) h _ (c .before .before .before .before .before .part-of .ensures)
+
+add-next-2 : tie.Need-add-next-2 Inv-loop μ-loop
+add-next-2 c = let h : c .before .before .before .before .before .before .before .before .loop .i < 512 = omega arith in omega (arith, sum-fits _ _ _ _ _ _ (c .before .before .before .before .before .before .before .before .loop .inv .2) (c .before .before .before .before .before .before .before .before .before .before .pre) h _ (c .before .before .before .before .before .before .part-of .ensures) _ (c .below-of .ensures))
+
+add-i : tie.Need-add-i Inv-loop μ-loop
+add-i c = search needs
+
+loop-less : tie.Need-loop-less Inv-loop μ-loop
+loop-less c = search needs
+
+loop-again : tie.Need-loop-again Inv-loop μ-loop
+loop-again c =
+    let h : c .before .before .before .before .before .before .before .before .loop .i < 512 = omega arith in (
+      search needs,
+      row-goes _ _ _ _ _ _ _ _ _ _ _ (c .before .before .before .before .before .before .before .before .loop .inv .1) (c .before .before .before .before .before .before .before .before .loop .inv .2) (c .before .before .before .before .before .before .part-of .ensures) (c .before .before .before .before .before .entry-of .ensures) (c .before .before .before .put .ensures),
+      next-goes _ _ _ _ _ _ (c .before .before .before .before .before .before .before .before .loop .inv .2) (c .before .before .before .before .before .before .before .before .before .before .pre) h _ (c .before .before .before .before .before .before .part-of .ensures) _ (c .below-of .ensures),
+    )
+
+same-length : tie.Need-same-length Inv-loop μ-loop
+same-length c = ap length (c .before .loop .inv .1) ∙ length-laid _ _ _
+
+returns : tie.Need-returns Inv-loop μ-loop
+returns c = row-ends _ _ _ _ _ _ _ (c .before .loop .inv .1) (search needs) (search needs)
+
+pub write-row-spec : {M : Type 1} → statement M
+write-row-spec = tie.close (tie.spec Inv-loop μ-loop add-next loop-holds part-of-requires mul-entry-of entry-of-requires mul-put add-put put-requires below-of-requires add-next-2 add-i loop-less loop-again same-length returns)
