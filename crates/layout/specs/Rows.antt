@@ -51,7 +51,7 @@ flat-none f h zero = refl
 flat-none f h (suc n) = rw (flat-none f h n, h n)
 
 -- ---- a list stands among the numbers from a place on
-pub Stands : List ℕ → ℕ → List ℕ → Type 0
+unfoldable pub Stands : List ℕ → ℕ → List ℕ → Type 0
 Stands numbers o v = (j : ℕ) → j < length v → getD numbers (o + j) 0 ≡ getD v j 0
 
 module _ (numbers : List ℕ) (o : ℕ) where
