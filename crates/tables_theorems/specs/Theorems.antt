@@ -1,0 +1,110 @@
+-- The tables of a world's mappings, after any run: they lead every address where the monitor says it leads.
+use mathlib.Core.Path.{_≡_, refl, sym, ap, _∙_}
+use mathlib.Core.Bool.{true, false}
+use mathlib.Core.List.{List, []}
+use Prim.Native.Nat.{ℕ, _+_, _*_, _≤_, _<_}
+use native.Mathlib.Omega.{arith}
+use lib.ListN.{length, getD}
+use Rattle.rules.specs.Choice.{pick, either}
+use Rattle.rules.specs.Reasons.{minus}
+use Rattle.rules.specs.declared.Reason.the-variants as Reason
+use Rattle.pages.specs.Window.{Acceptable, accepted}
+use Rattle.pages.specs.declared.Window.{Window}
+use Rattle.mapping.specs.Lists.{held-unmapped}
+use Rattle.mapping.specs.Mapping.{leadOf}
+use Rattle.mapping.specs.Entries.{Every}
+use Rattle.mapping.specs.Sound.{Formed}
+use Rattle.mapping.specs.declared.Lead.{Lead}
+use Rattle.mapping.specs.declared.Lead.the-variants.{To, Nowhere}
+use Rattle.identifiers.specs.Identifier.{argument}
+use Rattle.judgements.specs.Judge.{HandlerSight, argsOf, leading, board, rowIn, byRow, byNumber, byHandler, found, calledBy}
+use Rattle.judgements.specs.Asked.{key}
+use Rattle.judgements.specs.declared.Args.{Args}
+use Rattle.judgements.specs.declared.Judged.{Judged}
+use Rattle.judgements.specs.declared.Row.the-variants.{Is as IsRow, NoTransfer}
+use Rattle.judgements.specs.declared.Answer.the-variants.{Leads, No}
+use Rattle.answers.specs.Answers.{written}
+use Rattle.calls.specs.Step.{sight, judgedIn}
+use Rattle.calls.specs.Effects.{answerIn}
+use Rattle.parsing.specs.declared.Frame.the-variants as Frame
+use Rattle.lines.specs.Input.{readings}
+use Rattle.setup.specs.Table.{ready}
+use Rattle.frames.specs.Frames.{Machine, first, stateOf}
+use Rattle.showing.specs.declared.Reply.{Reply}
+use Rattle.inputs.specs.Run.{leftBy, left-reached}
+use Rattle.guarantees.specs.Runs.{Event, Events, Taken, ran, Allowed, Follows, follows-is, follows-ran}
+use Rattle.guarantees.specs.Fit.{Fit, ran-fit}
+use Rattle.guarantees.specs.Statements.{window, mapped, caller, arg, Is, denied, x, HeededCall}
+use Rattle.guarantees.specs.Theorems.{any-line}
+use Rattle.walks.specs.Walk.{walked}
+use Rattle.building.specs.Built.{status}
+use Rattle.tables_right.specs.Theorems.{said, left, leads-alike}
+
+-- the board's handler says of C2000022 where its address leads
+board-leads : (s : HandlerSight) (a : Args) (h k : ℕ) → (h ≡ 1) × (k ≡ 0xC2000022) → byHandler s a k h ≡ leading (leadOf (s .own) (a .x1))
+unfolding rowIn byRow byNumber board pick
+board-leads s a h k is = rw (is .0, is .1)
+
+-- ---- a machine that a run leaves
+module _ (m : Machine) (fit : Fit m) (world : ℕ) (numbers : List ℕ) where
+  bare-alike : m ≡ first → status (said (mapped m world) numbers) ≡ 0 → (x : ℕ) → walked (left (mapped m world) numbers) x ≡ leadOf (mapped m world) x
+  unfolding Every
+  bare-alike e =
+      let w : Window = record { base = 0; pages = 1 } in
+      let a : Acceptable w = record { aligned = refl; some = omega arith; most = omega arith; ends = omega arith } in
+      rw (e, held-unmapped world) (leads-alike w a [] tt numbers)
+
+  fit-alike : status (said (mapped m world) numbers) ≡ 0 → (x : ℕ) → walked (left (mapped m world) numbers) x ≡ leadOf (mapped m world) x
+  fit-alike =
+      either (ready (m .setup))
+      (λ y. let r = fit .right y in leads-alike (window m) (accepted (window m) (r .window)) (mapped m world) (r .sound world .formed) numbers)
+      (λ n. bare-alike (fit .idle n))
+
+-- ---- from the first line on: any run that keeps the promise of the step, whatever its lines
+module _ (run : Events) (m : Machine) (given : List Reply) (f : Follows first run m given) where
+  fit : Fit m
+  fit = rw (follows-is f .0) (ran-fit run)
+
+  -- The walk of the tables that are built of a world's mappings leads every address where the mappings do.
+  pub any-tables : (world : ℕ) (numbers : List ℕ) → status (said (mapped m world) numbers) ≡ 0 → (x : ℕ) → walked (left (mapped m world) numbers) x ≡ leadOf (mapped m world) x
+  any-tables world numbers = fit-alike m fit world numbers
+
+  -- ---- a call of C2000022
+  module _ (e : Event) (last : Machine) (answer : Reply) (step : Allowed m e last answer)
+      (core : ℕ) (call : e .0 ≡ Frame.Call core) (eight : length (e .1) ≡ 8) (taken : Taken answer) (where-call : Is m core (e .1) 1 0xC2000022) where
+    heeded : HeededCall m core (e .1) last answer
+    heeded = any-line run m given f e last answer step .call core call eight taken
+
+    judged-where : judgedIn (stateOf m) core (e .1) ≡ leading (leadOf (mapped m (caller m core (e .1))) (arg m core (e .1) 1))
+    unfolding found argsOf argument
+    judged-where =
+        heeded .dispatched (where-call .passes) ∙ ap (found (sight (stateOf m) core .inner) (argsOf (calledBy (e .1)) (e .1)) (key (e .1))) (where-call .reached)
+        ∙ board-leads (sight (stateOf m) core .inner) (argsOf (calledBy (e .1)) (e .1)) (where-call .number) (key (e .1)) (where-call .so)
+
+    module _ (numbers : List ℕ) (fits : status (said (mapped m (caller m core (e .1))) numbers) ≡ 0) where
+      -- where the walk of the caller's tables leads the address that the call asks about
+      abbrev pub walks-to : Lead
+      walks-to = walked (left (mapped m (caller m core (e .1))) numbers) (arg m core (e .1) 1)
+
+      by-walk : judgedIn (stateOf m) core (e .1) ≡ leading walks-to
+      by-walk = judged-where ∙ rw (any-tables (caller m core (e .1)) numbers fits (arg m core (e .1) 1))
+
+      -- Where it leads somewhere, the call is answered 0 with that address in x1 and those attributes in x2;
+      pub walk-told : (phys attr : ℕ) → walks-to ≡ To phys attr → (x m core (e .1) last 0 ≡ 0) × ((x m core (e .1) last 1 ≡ phys) × (x m core (e .1) last 2 ≡ attr))
+      unfolding leading
+      walk-told phys attr w =
+          let a : answerIn (stateOf m) core (e .1) ≡ Leads phys attr = ap (λ (j : Judged). j .answer) by-walk ∙ rw w in
+          (heeded .results 0 (rw a (omega arith)) ∙ rw a, (heeded .results 1 (rw a (omega arith)) ∙ rw a, heeded .results 2 (rw a (omega arith)) ∙ rw a))
+
+      -- and where it leads nowhere, the call is refused with -14.
+      pub walk-refused : walks-to ≡ Nowhere → last ≡ denied m core (e .1) 14
+      unfolding leading
+      walk-refused w =
+          let a : answerIn (stateOf m) core (e .1) ≡ No Reason.Nowhere = ap (λ (j : Judged). j .answer) by-walk ∙ rw w in
+          heeded .refused Reason.Nowhere a
+
+-- ---- of what is read: the mappings that any bytes leave
+pub left-tables :
+    (input : List ℕ) (world : ℕ) (numbers : List ℕ) →
+    let l = mapped (leftBy first input) world in status (said l numbers) ≡ 0 → (x : ℕ) → walked (left l numbers) x ≡ leadOf l x
+left-tables input world numbers = rw (left-reached first input) (any-tables (readings input) _ _ (follows-ran first (readings input)) world numbers)

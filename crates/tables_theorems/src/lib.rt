@@ -1,0 +1,1 @@
+// The tables of what a run leaves: theorems for a reviewer, in specs/ alone.
