@@ -4,3 +4,4 @@ pub mod Decided
 pub mod Walked
 pub mod Counted
 pub mod Theorems
+pub mod Few

@@ -38,7 +38,8 @@ module _ (l : List Mapping) (numbers : List ℕ) where
   abbrev pub left : List ℕ
   left = built l numbers .1
 
-  by-room : (P : Built × List ℕ → Type 0) → (512 * tables l 2 0 ≤ length numbers → P (Tables (tables l 2 0), laid numbers 0 (tree l 2 0 0))) → (length numbers < 512 * tables l 2 0 → P (NoRoom, numbers)) → P (built l numbers)
+  -- a statement about both, by whether the tables fit
+  pub by-room : (P : Built × List ℕ → Type 0) → (512 * tables l 2 0 ≤ length numbers → P (Tables (tables l 2 0), laid numbers 0 (tree l 2 0 0))) → (length numbers < 512 * tables l 2 0 → P (NoRoom, numbers)) → P (built l numbers)
   unfolding built
   by-room P y n = chosen P (leb (512 * tables l 2 0) (length numbers)) _ _ (λ e. y (leb-true _ _ e)) (λ e. n (leb-false _ _ e))
 

@@ -8,12 +8,12 @@ use lib.ListN.{length, getD}
 use Rattle.rules.specs.Choice.{pick, either}
 use Rattle.rules.specs.Reasons.{minus}
 use Rattle.rules.specs.declared.Reason.the-variants as Reason
-use Rattle.pages.specs.Window.{Acceptable, accepted}
+use Rattle.pages.specs.Window.{acceptable, accepted}
 use Rattle.pages.specs.declared.Window.{Window}
 use Rattle.mapping.specs.Lists.{held-unmapped}
 use Rattle.mapping.specs.Mapping.{leadOf}
-use Rattle.mapping.specs.Entries.{Every}
-use Rattle.mapping.specs.Sound.{Formed}
+use Rattle.mapping.specs.Sound.{Sound, sound-none}
+use Rattle.ranges.specs.declared.Mapping.{Mapping}
 use Rattle.mapping.specs.declared.Lead.{Lead}
 use Rattle.mapping.specs.declared.Lead.the-variants.{To, Nowhere}
 use Rattle.identifiers.specs.Identifier.{argument}
@@ -38,7 +38,9 @@ use Rattle.guarantees.specs.Statements.{window, mapped, caller, arg, Is, denied
 use Rattle.guarantees.specs.Theorems.{any-line}
 use Rattle.walks.specs.Walk.{walked}
 use Rattle.building.specs.Built.{status}
+use Rattle.layout.specs.Layout.{tables}
 use Rattle.tables_right.specs.Theorems.{said, left, leads-alike}
+use Rattle.tables_right.specs.Few.{most-tables, never-refused}
 
 -- the board's handler says of C2000022 where its address leads
 board-leads : (s : HandlerSight) (a : Args) (h k : ℕ) → (h ≡ 1) × (k ≡ 0xC2000022) → byHandler s a k h ≡ leading (leadOf (s .own) (a .x1))
@@ -46,19 +48,17 @@ unfolding rowIn byRow byNumber board pick
 board-leads s a h k is = rw (is .0, is .1)
 
 -- ---- a machine that a run leaves
-module _ (m : Machine) (fit : Fit m) (world : ℕ) (numbers : List ℕ) where
-  bare-alike : m ≡ first → status (said (mapped m world) numbers) ≡ 0 → (x : ℕ) → walked (left (mapped m world) numbers) x ≡ leadOf (mapped m world) x
-  unfolding Every
-  bare-alike e =
-      let w : Window = record { base = 0; pages = 1 } in
-      let a : Acceptable w = record { aligned = refl; some = omega arith; most = omega arith; ends = omega arith } in
-      rw (e, held-unmapped world) (leads-alike w a [] tt numbers)
+-- its lists are sound in its window; and before there is a window they are empty, and so sound in any
+module _ (m : Machine) (fit : Fit m) (world : ℕ) where
+  some-window : acceptable (record { base = 0; pages = 1 }) ≡ true
+  unfolding acceptable
+  some-window = refl
 
-  fit-alike : status (said (mapped m world) numbers) ≡ 0 → (x : ℕ) → walked (left (mapped m world) numbers) x ≡ leadOf (mapped m world) x
-  fit-alike =
+  by-sound : (P : List Mapping → Type 0) → ((w : Window) (o : List ℕ) (l : List Mapping) → acceptable w ≡ true → Sound w o world l → P l) → P (mapped m world)
+  by-sound P f =
       either (ready (m .setup))
-      (λ y. let r = fit .right y in leads-alike (window m) (accepted (window m) (r .window)) (mapped m world) (r .sound world .formed) numbers)
-      (λ n. bare-alike (fit .idle n))
+      (λ y. let r = fit .right y in f (window m) (m .owners) (mapped m world) (r .window) (r .sound world))
+      (λ n. rw (fit .idle n, held-unmapped world) (f (record { base = 0; pages = 1 }) [] [] some-window (sound-none (record { base = 0; pages = 1 }) [] world)))
 
 -- ---- from the first line on: any run that keeps the promise of the step, whatever its lines
 module _ (run : Events) (m : Machine) (given : List Reply) (f : Follows first run m given) where
@@ -67,7 +67,16 @@ module _ (run : Events) (m : Machine) (given : List Reply) (f : Follows first ru
 
   -- The walk of the tables that are built of a world's mappings leads every address where the mappings do.
   pub any-tables : (world : ℕ) (numbers : List ℕ) → status (said (mapped m world) numbers) ≡ 0 → (x : ℕ) → walked (left (mapped m world) numbers) x ≡ leadOf (mapped m world) x
-  any-tables world numbers = fit-alike m fit world numbers
+  any-tables world numbers =
+      by-sound m fit world (λ (l : List Mapping). status (said l numbers) ≡ 0 → (x : ℕ) → walked (left l numbers) x ≡ leadOf l x)
+      (λ w o l ok s. leads-alike w (accepted w ok) l (s .formed) numbers)
+
+  -- There are at most 44 of them, so that who lends 22,528 numbers is never refused.
+  pub any-few : (world : ℕ) → tables (mapped m world) 2 0 ≤ 44
+  any-few world = by-sound m fit world (λ (l : List Mapping). tables l 2 0 ≤ 44) (λ w o l ok s. most-tables w o world l ok s)
+
+  pub any-fits : (world : ℕ) (numbers : List ℕ) → 22528 ≤ length numbers → status (said (mapped m world) numbers) ≡ 0
+  any-fits world numbers h = by-sound m fit world (λ (l : List Mapping). status (said l numbers) ≡ 0) (λ w o l ok s. never-refused w o world l ok s numbers h)
 
   -- ---- a call of C2000022
   module _ (e : Event) (last : Machine) (answer : Reply) (step : Allowed m e last answer)
@@ -104,7 +113,14 @@ module _ (run : Events) (m : Machine) (given : List Reply) (f : Follows first ru
           heeded .refused Reason.Nowhere a
 
 -- ---- of what is read: the mappings that any bytes leave
-pub left-tables :
-    (input : List ℕ) (world : ℕ) (numbers : List ℕ) →
-    let l = mapped (leftBy first input) world in status (said l numbers) ≡ 0 → (x : ℕ) → walked (left l numbers) x ≡ leadOf l x
-left-tables input world numbers = rw (left-reached first input) (any-tables (readings input) _ _ (follows-ran first (readings input)) world numbers)
+module _ (input : List ℕ) (world : ℕ) (numbers : List ℕ) where
+  abbrev pub mapped-by : List Mapping
+  mapped-by = mapped (leftBy first input) world
+
+  -- Of these too the tables lead every address where the mappings do,
+  pub left-tables : status (said mapped-by numbers) ≡ 0 → (x : ℕ) → walked (left mapped-by numbers) x ≡ leadOf mapped-by x
+  left-tables = rw (left-reached first input) (any-tables (readings input) _ _ (follows-ran first (readings input)) world numbers)
+
+  -- and 22,528 numbers are enough.
+  pub left-fits : 22528 ≤ length numbers → status (said mapped-by numbers) ≡ 0
+  left-fits = rw (left-reached first input) (any-fits (readings input) _ _ (follows-ran first (readings input)) world numbers)
