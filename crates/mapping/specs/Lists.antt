@@ -141,6 +141,11 @@ pub ruleset list-laws = (has-is, meets-is, meets-bytes, touched-is, decides-nobo
 
 -- ---- for the crates above
 
+-- place by place
+pub held-gathered : (t : List ℕ) (w : ℕ) → held t w ≡ gathered (place t w) 0 mostMappings
+unfolding held
+held-gathered t w = refl
+
 -- no world holds anything at first, and a world that is none never does
 pub held-unmapped : (w : ℕ) → held unmapped w ≡ []
 unfolding held
