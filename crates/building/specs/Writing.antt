@@ -73,9 +73,9 @@ module _ (l : List Mapping) where
     unfolding below
     below-none e = rw e
 
-    pub limb-none : (t : ℕ) (n : List ℕ) → k ≡ 0 → n ≡ laid n (512 * t) (limb l k b t)
+    pub limb-none : (t : ℕ) (n : List ℕ) → k ≡ 0 → (t ≡ t + below l k b) × (n ≡ laid n (512 * t) (limb l k b t))
     unfolding limb laid
-    limb-none t n e = rw e
+    limb-none t n e = (let z = below-none e in omega arith, rw e)
 
     module _ (d : k ≡ 0 → ⊥) (v : Bool) (e : v ≡ deeper l k b) where
       below-some : below l k b ≡ pick v (tables l (k - 1) b) 0
@@ -93,12 +93,14 @@ module _ (l : List Mapping) where
       below-yes r f g = g ∙ sym (below-some ∙ pick-yes _ _ _ f)
 
       module _ (t : ℕ) where
-        pub limb-not : (n : List ℕ) → v ≡ false → n ≡ laid n (512 * t) (limb l k b t)
+        pub limb-not : (n : List ℕ) → v ≡ false → (t ≡ t + below l k b) × (n ≡ laid n (512 * t) (limb l k b t))
         unfolding laid
-        limb-not n f = rw (limb-some t, pick-no v (tree l (k - 1) b t) [] f)
+        limb-not n f = (let z = below-not f in omega arith, rw (limb-some t, pick-no v (tree l (k - 1) b t) [] f))
 
-        pub limb-yes : (n m : List ℕ) → v ≡ true → m ≡ laid n (512 * t) (tree l (k - 1) b t) → m ≡ laid n (512 * t) (limb l k b t)
-        limb-yes n m f g = rw (limb-some t, pick-yes v (tree l (k - 1) b t) [] f) g
+        pub limb-yes :
+            (n m : List ℕ) (r : ℕ) → v ≡ true → (r ≡ t + tables l (k - 1) b) × (m ≡ laid n (512 * t) (tree l (k - 1) b t)) →
+            (r ≡ t + below l k b) × (m ≡ laid n (512 * t) (limb l k b t))
+        limb-yes n m r f g = (let z = below-yes (tables l (k - 1) b) f refl in let y = g .0 in omega arith, rw (limb-some t, pick-yes v (tree l (k - 1) b t) [] f) (g .1))
 
         pub limb-fit : FitPart l k b t → v ≡ true → Fit l (k - 1) b t
         limb-fit f g = record { room = inside-below k b (f .room) d; most = let z = below-some ∙ pick-yes _ _ _ g in omega (arith, f .most) }
@@ -108,6 +110,11 @@ module _ (l : List Mapping) where
     here : (i b : ℕ) → b ≡ part k a i → below l k b ≡ belowAt l k a i
     unfolding belowAt
     here i b e = rw e
+
+    -- nothing stands below a page
+    pub count-none : k ≡ 0 → 1 ≡ tables l k a
+    unfolding tables
+    count-none e = rw e
 
     -- the count so far
     pub count-starts : 1 ≡ 1 + total (belowAt l k a) 0
@@ -142,11 +149,22 @@ module _ (l : List Mapping) where
           unfolding next total
           next-goes r g = let z = here i b e in rw (add-one i) (omega arith)
 
+          pub next-after : (r : ℕ) → r ≡ x + below l k b → r ≡ next l k a t (i + 1)
+          next-after r g = g ∙ next-goes (below l k b) refl
+
           pub limb-fits : FitPart l k b x
           limb-fits = record { room = part-inside k a i (f .room) h b e; most = omega (arith, here i b e, next-fits) }
 
           pub sum-fits : (r : ℕ) → r ≡ below l k b → x + r ≤ 262657
           sum-fits r g = omega (arith, here i b e, next-fits)
+
+      -- past the last entry
+      pub next-ends : (x i : ℕ) → x ≡ next l k a t i → 512 ≤ i → i ≤ 512 → x ≡ t + tables l k a
+      unfolding next
+      next-ends x i inv h u =
+          let z : i ≡ 512 = omega arith in
+          let y : x ≡ t + 1 + total (belowAt l k a) 512 = rw z at inv in
+          omega (arith, tables-are l k a)
 
       next-is : (i : ℕ) → next l k a t i ≡ t + 1 + total (belowAt l k a) i
       unfolding next
@@ -189,9 +207,9 @@ module _ (l : List Mapping) where
 pub put-out : (n : List ℕ) (i v : ℕ) → length n ≤ i → n ≡ set n i v
 put-out n i v h = sym (set-out n i v h)
 
-pub ruleset counting = (count-ends, below-none, below-not, below-yes)
+pub ruleset counting = (count-none, count-ends, below-none, below-not, below-yes)
 
-pub ruleset writing = (put-out, limb-none, limb-not, limb-yes)
+pub ruleset writing = (put-out, limb-none, limb-not)
 
 -- ---- the whole
 pub top-inside : Inside 2 0

@@ -4,10 +4,11 @@ ghost use Prim.Native.Nat.{_+_, _*_, _≤_, _<_};
 ghost use lib.ListN.{set};
 ghost use Rattle.tools.specs.Laid.{laid};
 ghost use Rattle.mapping.specs.Lists.{held};
-ghost use Rattle.layout.specs.Rows.{rows};
+ghost use Rattle.layout.specs.Rows.{rows, nil};
 ghost use Rattle.layout.specs.Layout.{part, tables, below, entryAt, tree};
 ghost use Rattle.layout.specs.Laws.{limb};
 ghost use Rattle.building.specs.Writing.{Inside, InsidePart, Fit, FitPart};
+ghost use Rattle.building.specs.Gaps.{Gap};
 ghost use Rattle.building.specs.Built.{built};
 use mapping::Lists;
 use rules::PAGE_SIZE;
@@ -29,14 +30,37 @@ fn part_of(level: u64, a: u64, i: u64) -> u64
     a + i * descriptors::span_of(level)
 }
 
-// How many tables the addresses of a table take.
+// How many entries from the one at b on no mapping touches, of so many: none where one touches that entry.
+fn gap_of(lists: &Lists, world: u64, level: u64, b: u64, most: u64) -> u64
+    requires { ⌜ (0 < most) × (most ≤ 512) ⌝ }
+    ensures { λ r. ⌜ Gap (held (now (lists .entry)) world) level b most r ⌝ }
+{
+    let size = descriptors::span_of(level);
+    if mapping::touches(lists, world, b, size) {
+        return 0;
+    }
+    let n = stretches::steady(lists, world, b, most * size) / size;
+    if n == 0 {
+        return 1;
+    }
+    n
+}
+
+// How many tables the addresses of a table take. Entries that nothing touches are passed over.
 fn tables_of(lists: &Lists, world: u64, level: u64, a: u64) -> u64
     requires { ⌜ Inside level a ⌝ }
     ensures { λ r. ⌜ r ≡ tables (held (now (lists .entry)) world) level a ⌝ }
 {
+    if level == 0 {
+        return 1;
+    }
     let mut n = 1;
     let mut i = 0;
     while i < ENTRIES {
+        i += gap_of(lists, world, level, part_of(level, a, i), ENTRIES - i);
+        if ENTRIES <= i {
+            return n;
+        }
         n += below_of(lists, world, level, part_of(level, a, i));
         i += 1;
     }
@@ -68,6 +92,18 @@ fn put(numbers: &mut [u64], at: u64, v: u64)
     numbers[i] = v;
 }
 
+// Puts n zeros from a place on.
+fn clear(numbers: &mut [u64], at: u64, n: u64)
+    requires { ⌜ (at ≤ 134480896) × (n ≤ 512) ⌝ }
+    ensures { λ _. ⌜ now (numbers .exit) ≡ laid (now (numbers .entry)) at (rows nil n) ⌝ }
+{
+    let mut i = 0;
+    while i < n {
+        put(numbers, at + i, 0);
+        i += 1;
+    }
+}
+
 // Writes the entries of table t.
 fn write_row(numbers: &mut [u64], lists: &Lists, world: u64, level: u64, a: u64, t: u64)
     requires { ⌜ Fit (held (now lists) world) level a t ⌝ }
@@ -76,6 +112,12 @@ fn write_row(numbers: &mut [u64], lists: &Lists, world: u64, level: u64, a: u64,
     let mut next = t + 1;
     let mut i = 0;
     while i < ENTRIES {
+        let gap = gap_of(lists, world, level, part_of(level, a, i), ENTRIES - i);
+        clear(numbers, ENTRIES * t + i, gap);
+        i += gap;
+        if ENTRIES <= i {
+            return;
+        }
         let b = part_of(level, a, i);
         let e = entries::entry_of(lists, world, level, b, PAGE_SIZE * next);
         put(numbers, ENTRIES * t + i, e);
@@ -84,34 +126,37 @@ fn write_row(numbers: &mut [u64], lists: &Lists, world: u64, level: u64, a: u64,
     }
 }
 
-// Writes table t, and behind it the tables below its entries.
-fn write_tree(numbers: &mut [u64], lists: &Lists, world: u64, level: u64, a: u64, t: u64)
+// Writes table t, and behind it the tables below its entries. Says the number of the next table.
+fn write_tree(numbers: &mut [u64], lists: &Lists, world: u64, level: u64, a: u64, t: u64) -> u64
     requires { ⌜ Fit (held (now lists) world) level a t ⌝ }
-    ensures { λ _. ⌜ now (numbers .exit) ≡ laid (now (numbers .entry)) (512 * t) (tree (held (now (lists .entry)) world) level a t) ⌝ }
+    ensures { λ r. ⌜ (r ≡ t + tables (held (now (lists .entry)) world) level a) × (now (numbers .exit) ≡ laid (now (numbers .entry)) (512 * t) (tree (held (now (lists .entry)) world) level a t)) ⌝ }
 {
     write_row(numbers, lists, world, level, a, t);
     let mut next = t + 1;
     let mut i = 0;
     while i < ENTRIES {
-        let b = part_of(level, a, i);
-        write_limb(numbers, lists, world, level, b, next);
-        next += below_of(lists, world, level, b);
+        i += gap_of(lists, world, level, part_of(level, a, i), ENTRIES - i);
+        if ENTRIES <= i {
+            return next;
+        }
+        next = write_limb(numbers, lists, world, level, part_of(level, a, i), next);
         i += 1;
     }
+    next
 }
 
-// Writes the tables below an entry, from table t on.
-fn write_limb(numbers: &mut [u64], lists: &Lists, world: u64, level: u64, b: u64, t: u64)
+// Writes the tables below an entry, from table t on. Says the number of the next table.
+fn write_limb(numbers: &mut [u64], lists: &Lists, world: u64, level: u64, b: u64, t: u64) -> u64
     requires { ⌜ FitPart (held (now lists) world) level b t ⌝ }
-    ensures { λ _. ⌜ now (numbers .exit) ≡ laid (now (numbers .entry)) (512 * t) (limb (held (now (lists .entry)) world) level b t) ⌝ }
+    ensures { λ r. ⌜ (r ≡ t + below (held (now (lists .entry)) world) level b) × (now (numbers .exit) ≡ laid (now (numbers .entry)) (512 * t) (limb (held (now (lists .entry)) world) level b t)) ⌝ }
 {
     if level == 0 {
-        return;
+        return t;
     }
     if entries::is_deeper(lists, world, level, b) {
-        write_tree(numbers, lists, world, level - 1, b, t);
-        return;
+        return write_tree(numbers, lists, world, level - 1, b, t);
     }
+    t
 }
 
 // Builds the tables of the world's mappings, from the first of the numbers on. Numbers past the tables stay; where the tables

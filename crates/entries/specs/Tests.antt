@@ -3,12 +3,13 @@ use mathlib.Core.Path.{_≡_, refl, sym, ap, _∙_}
 use mathlib.Core.Bool.{Bool, true, false, not, _&&_}
 use mathlib.Core.List.{List}
 use mathlib.Core.Option.{Option, none, some}
-use Prim.Native.Nat.{ℕ, suc, _+_, _-_, _*_, _%_, _^_, _≤_, _<_}
+use Prim.Native.Nat.{ℕ, zero, suc, _+_, _-_, _*_, _/_, _%_, _^_, _≤_, _<_}
 use native.Mathlib.Omega.{arith}
 use lib.Count.{trailingZeros}
 use borrow.Author.Tests.{le-leb, lt-leb}
 use Rattle.rules.specs.Choice.{pick, picked, passed}
 use Rattle.rules.specs.Sizes.{pageSize}
+use Rattle.tools.specs.Search.{all}
 use Rattle.ranges.specs.declared.Mapping.{Mapping}
 use Rattle.mapping.specs.Mapping.{deciding, leadOf, touched, decidedBy}
 use Rattle.mapping.specs.Deciding.{deciding-low}
@@ -16,6 +17,7 @@ use Rattle.mapping.specs.declared.Decider.{Decider}
 use Rattle.mapping.specs.declared.Decider.the-variants.{By, Nobody}
 use Rattle.mapping.specs.declared.Lead.{Lead}
 use Rattle.mapping.specs.declared.Lead.the-variants.{To, Nowhere}
+use Rattle.stretches.specs.Steady.{steady, steady-most, steady-some, steady-decides}
 use Rattle.descriptors.specs.Numbers.{span, leafNumber, tableNumber}
 use Rattle.entries.specs.Entries.{same, isBy, decides, throughout, allowed, physical, blockBy, block, leaf, whole, deeper, entry}
 
@@ -45,10 +47,62 @@ module _ (d : Decider) (o : Option Mapping) (said : d ≡ decidedBy o) where
   unfolding isBy
   by-one m n r e f = rw (decided-some n e) f
 
--- a page of a slot
-pub page-by : (l : List Mapping) (m : Mapping) (b i x : ℕ) (r v : Bool) → x ≡ (b + i * pageSize) % 2 ^ 64 → r ≡ isBy m (deciding l x) → r ≡ v → decides l m b i ≡ v
-unfolding decides
-page-by l m b i x r v e f g = rw (← e) (sym f ∙ g)
+-- ---- the pages of a slot, as many at once as are decided alike
+-- of so many pages from an address on, the first r are decided as the first is, and no sum wraps
+pub record Alike (l : List Mapping) (start most r : ℕ) : Type 0 where
+  pub some : 0 < r
+  pub few : r ≤ most
+  pub inside : (j : ℕ) → 0 < j → j < r → start + j * 4096 < 18446744073709551616
+  pub same : (j : ℕ) → 0 < j → j < r → deciding l (start + j * 4096) ≡ deciding l start
+
+module _ (l : List Mapping) (start most : ℕ) (h : 0 < most) where
+  pub alike-one : Alike l start most 1
+  alike-one = record { some = omega arith; few = omega arith; inside = λ j a b. absurd (omega arith); same = λ j a b. absurd (omega arith) }
+
+  module _ (wanted n : ℕ) (e : wanted ≡ most * 4096) (f : n ≡ steady l start wanted) where
+    pub alike-some : 0 < n
+    alike-some = let z = steady-some l start wanted (omega arith) in omega arith
+
+    pub alike-many : start + wanted ≤ 18446744073709551615 → Alike l start most ((n - 1) / 4096 + 1)
+    alike-many u =
+        let z = steady-most l start wanted in
+        let y = alike-some in
+        record {
+          some = omega arith;
+          few = omega arith;
+          inside = λ j a b. omega arith;
+          same = λ j a b. steady-decides l start wanted (start + j * 4096) (omega arith) (omega arith);
+        }
+
+-- pages that pass are passed over
+all-skip : (p : ℕ → Bool) (a n r : ℕ) → r ≤ n → ((j : ℕ) → j < r → p (a + j) ≡ true) → all p a n ≡ all p (a + r) (n - r)
+unfolding all
+all-skip p a n zero h f = let y : a + 0 ≡ a = omega arith in let z : n - 0 ≡ n = omega arith in rw (y, z)
+all-skip p a zero (suc r) h f = absurd (omega arith)
+all-skip p a (suc n) (suc r) h f =
+    let x : a + 0 ≡ a = omega arith in
+    let y : a + suc r ≡ suc a + r = omega arith in
+    let z : suc n - suc r ≡ n - r = omega arith in
+    let e : p a ≡ true = rw x at (f 0 (omega arith)) in
+    rw (y, z, e) (all-skip p (suc a) n r (omega arith) (λ j g. let w : suc a + j ≡ a + suc j = omega arith in rw w (f (suc j) (omega arith))))
+
+wrapped : (b i j start : ℕ) → start ≡ (b + i * 4096) % 18446744073709551616 → start + j * 4096 < 18446744073709551616 → (b + (i + j) * 4096) % 18446744073709551616 ≡ start + j * 4096
+wrapped b i j start e h = omega arith
+
+module _ (l : List Mapping) (m : Mapping) (b i start : ℕ) (e : start ≡ (b + i * pageSize) % 2 ^ 64) (v : Bool) (f : v ≡ isBy m (deciding l start)) where
+  pub page-not : v ≡ false → decides l m b i ≡ false
+  unfolding decides
+  page-not g = rw (← e) (sym f ∙ g)
+
+  pub pages-pass : (whole : Bool) (most r : ℕ) → whole ≡ all (decides l m b) i most → v ≡ true → Alike l start most r → whole ≡ all (decides l m b) (i + r) (most - r)
+  unfolding decides
+  pages-pass whole most r inv g a = inv ∙ all-skip (decides l m b) i most r (a .few) each
+    where
+      each : (j : ℕ) → j < r → decides l m b (i + j) ≡ true
+      each zero h = let z : i + 0 ≡ i = omega arith in rw (z, ← e) (sym f ∙ g)
+      each (suc j) h =
+          let z = wrapped b i (suc j) start e (a .inside (suc j) (omega arith) h) in
+          rw (z, a .same (suc j) (omega arith) h) (sym f ∙ g)
 
 module _ (l : List Mapping) (b : ℕ) (d : Decider) (said : d ≡ decidedBy (deciding l b)) where
   pub block-nobody : d ≡ Nobody → false ≡ block l b

@@ -1,9 +1,10 @@
 // What stands in an entry of a table, by the list of mappings and the addresses that the entry covers.
 ghost use mathlib.Core.Path.{_≡_};
 ghost use mathlib.Core.Bool.{_&&_};
-ghost use Prim.Native.Nat.{_≤_};
+ghost use Prim.Native.Nat.{_≤_, _<_};
 ghost use Rattle.mapping.specs.Lists.{held};
 ghost use Rattle.mapping.specs.Mapping.{deciding};
+ghost use Rattle.entries.specs.Tests.{Alike};
 ghost use Rattle.entries.specs.Entries.{same, isBy, throughout, allowed, physical, block, leaf, whole, deeper, entry};
 use mapping::Decider;
 use mapping::Lead;
@@ -43,6 +44,19 @@ fn is_decided_by(lists: &Lists, world: u64, m: Mapping, address: u64) -> bool
     }
 }
 
+// How many of so many pages from an address on are seen to be decided as the first is. Where a sum could wrap, one is seen at a time.
+fn pages_alike(lists: &Lists, world: u64, start: u64, most: u64) -> u64
+    requires { ⌜ (0 < most) × (most ≤ 512) ⌝ }
+    ensures { λ r. ⌜ Alike (held (now (lists .entry)) world) start most r ⌝ }
+{
+    let wanted = most * PAGE_SIZE;
+    if u64::MAX - wanted < start {
+        return 1;
+    }
+    let n = stretches::steady(lists, world, start, wanted);
+    (n - 1) / PAGE_SIZE + 1
+}
+
 // Whether the mapping decides each page of the slot.
 fn is_throughout(lists: &Lists, world: u64, m: Mapping, slot: u64) -> bool
     ensures { λ r. ⌜ r ≡ throughout (held (now (lists .entry)) world) m slot ⌝ }
@@ -52,8 +66,9 @@ fn is_throughout(lists: &Lists, world: u64, m: Mapping, slot: u64) -> bool
     while 0 < unseen {
         let start = std::num::wrapping_add_u64(slot, page * PAGE_SIZE);
         if is_decided_by(lists, world, m, start) {
-            page += 1;
-            unseen -= 1;
+            let n = pages_alike(lists, world, start, unseen);
+            page += n;
+            unseen -= n;
         } else {
             return false;
         }

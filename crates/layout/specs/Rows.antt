@@ -1,6 +1,6 @@
 -- Rows of numbers, lists one behind the other and totals, each over the first n places; and what stands where among other numbers.
 use mathlib.Core.Path.{_≡_, refl, sym, ap, _∙_}
-use mathlib.Core.List.{List, [], _∷_, _++_}
+use mathlib.Core.List.{List, [], _∷_, _++_, append-nil, append-assoc}
 use mathlib.Core.Logic.{⊎-elim}
 use Prim.Native.Nat.{ℕ, zero, suc, _+_, _*_, _≤_, _<_}
 use native.Mathlib.Nat.{eq-or-lt-of-le, le-of-suc-le-suc, mul-add, suc-mul}
@@ -49,6 +49,29 @@ pub flat-none : (f : ℕ → List ℕ) → ((i : ℕ) → f i ≡ []) → (n : �
 unfolding flat
 flat-none f h zero = refl
 flat-none f h (suc n) = rw (flat-none f h n, h n)
+
+-- ---- places at which there is nothing
+-- 0 at every place
+unfoldable pub nil : ℕ → ℕ
+nil i = 0
+
+module _ (i : ℕ) where
+  pub total-skip : (f : ℕ → ℕ) (r : ℕ) → ((j : ℕ) → j < r → f (i + j) ≡ 0) → total f (i + r) ≡ total f i
+  unfolding total
+  total-skip f zero h = let z : i + 0 ≡ i = omega arith in rw z
+  total-skip f (suc r) h = let z : i + suc r ≡ suc (i + r) = omega arith in rw (z, h r (omega arith), total-skip f r (λ j g. h j (omega arith))) (omega arith)
+
+  pub flat-skip : (f : ℕ → List ℕ) (r : ℕ) → ((j : ℕ) → j < r → f (i + j) ≡ []) → flat f (i + r) ≡ flat f i
+  unfolding flat
+  flat-skip f zero h = let z : i + 0 ≡ i = omega arith in rw z
+  flat-skip f (suc r) h = let z : i + suc r ≡ suc (i + r) = omega arith in rw (z, h r (omega arith), flat-skip f r (λ j g. h j (omega arith))) (append-nil (flat f i))
+
+  pub rows-skip : (f : ℕ → ℕ) (r : ℕ) → ((j : ℕ) → j < r → f (i + j) ≡ 0) → rows f (i + r) ≡ rows f i ++ rows nil r
+  unfolding rows nil
+  rows-skip f zero h = let z : i + 0 ≡ i = omega arith in rw z (sym (append-nil (rows f i)))
+  rows-skip f (suc r) h =
+      let z : i + suc r ≡ suc (i + r) = omega arith in
+      rw (z, h r (omega arith), rows-skip f r (λ j g. h j (omega arith))) (append-assoc (rows f i) (rows nil r) (0 ∷ []))
 
 -- ---- a list stands among the numbers from a place on
 unfoldable pub Stands : List ℕ → ℕ → List ℕ → Type 0

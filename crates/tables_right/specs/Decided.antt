@@ -13,30 +13,15 @@ use Rattle.rules.specs.Sizes.{pageSize}
 use Rattle.tools.specs.Search.{all, all-at, all-if}
 use Rattle.pages.specs.Window.{Acceptable}
 use Rattle.pages.specs.declared.Window.{Window}
-use Rattle.ranges.specs.Ranges.{within-low, within-high, within-if, meet-not}
 use Rattle.ranges.specs.declared.Mapping.{Mapping}
-use Rattle.mapping.specs.Mapping.{holds, anyOf, smallestOf, deciding, leading, leadOf, touched, touches}
-use Rattle.mapping.specs.Entries.{Every, Among, any-less, every-of, every-among, any-among}
-use Rattle.mapping.specs.Deciding.{Sought, missing, smallest, sought, smallest-alike, deciding-is, deciding-low}
+use Rattle.mapping.specs.Mapping.{holds, deciding}
+use Rattle.mapping.specs.Entries.{Every, every-of, every-among}
+use Rattle.mapping.specs.Deciding.{smallest-alike, deciding-is, deciding-low}
 use Rattle.mapping.specs.Sound.{Formed}
-use Rattle.mapping.specs.declared.Lead.the-variants.{To, Nowhere}
 use Rattle.descriptors.specs.Numbers.{span}
+use Rattle.entries.specs.Touched.{holds-low, holds-high, holds-if}
 use Rattle.entries.specs.Entries.{same, isBy, decides, throughout, physical, allowed, blockBy, block, whole}
 use Rattle.tables_right.specs.Zeros.{zeros-slot, slot-zeros}
-
--- ---- one mapping
-module _ (x : ℕ) (m : Mapping) where
-  pub holds-low : holds x m ≡ true → m .virt ≤ x
-  unfolding holds
-  holds-low y = within-low x (m .virt) (m .size) y
-
-  pub holds-high : holds x m ≡ true → x < m .virt + m .size
-  unfolding holds
-  holds-high y = within-high x (m .virt) (m .size) y
-
-  pub holds-if : m .virt ≤ x → x < m .virt + m .size → holds x m ≡ true
-  unfolding holds
-  holds-if h u = within-if x (m .virt) (m .size) h u
 
 -- a mapping of whole pages holds an address where it holds the start of its page
 same-page : (w : Window) (m : Mapping) → Formed w m → (b x : ℕ) → b % 4096 ≡ 0 → b ≤ x → x < b + 4096 → holds x m ≡ holds b m
@@ -73,23 +58,6 @@ unfolding isBy
 by-self m d e = rw e (same-self m)
 
 -- ---- which mapping decides
-none-decides : (l : List Mapping) (x : ℕ) → anyOf (holds x) l ≡ false → deciding l x ≡ none
-unfolding deciding
-none-decides l x h = of (smallestOf (holds x) l) (sought (holds x) l)
-  where
-    of : (d : Option Mapping) → Sought (holds x) l d → d ≡ none
-    of none (missing a) = refl
-    of (some n) (smallest _ s) = absurd (yes-or-no _ (any-among (holds x) l n (s .among) (s .passes)) h)
-
--- no mapping touches the addresses
-pub untouched : (l : List Mapping) (b s x : ℕ) → touched l b s ≡ false → b ≤ x → x < b + s → deciding l x ≡ none
-unfolding touched
-untouched l b s x e h u =
-    none-decides l x (any-less (touches b s) (holds x) l
-    (λ m f. either (holds x m)
-    (λ y. absurd (meet-not b s (m .virt) (m .size) f (omega (arith, holds-high x m y)) (omega (arith, holds-low x m y))))
-    (λ n. n)) e)
-
 module _ (w : Window) (l : List Mapping) (formed : Every (Formed w) l) where
   pub decider-formed : (x : ℕ) (m : Mapping) → deciding l x ≡ some m → Formed w m
   decider-formed x m e = every-among (Formed w) l m formed (deciding-is l x m e .among)

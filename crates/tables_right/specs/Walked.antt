@@ -19,12 +19,13 @@ use Rattle.mapping.specs.declared.Lead.the-variants.{To, Nowhere}
 use Rattle.descriptors.specs.Numbers.{span, tableNumber}
 use Rattle.descriptors.specs.Meaning.{meaning}
 use Rattle.walks.specs.Walk.{entryFor, led, descended}
+use Rattle.entries.specs.Touched.{untouched}
 use Rattle.entries.specs.Entries.{physical, leaf, whole, deeper, entry}
 use Rattle.layout.specs.Rows.{rows, flat, total, length-rows, Stands, stands-left, stands-right, stands-rows, stands-flat, total-within}
 use Rattle.layout.specs.Layout.{part, tables, below, belowAt, next, entryAt, tree}
 use Rattle.layout.specs.Laws.{limb, limbAt, tables-are, tree-is, length-limb-at}
 use Rattle.tables_right.specs.Numbers.{nothing-means, table-means, leaf-means}
-use Rattle.tables_right.specs.Decided.{untouched, decider-formed, decider-low, exact-physical, One, whole-one}
+use Rattle.tables_right.specs.Decided.{decider-formed, decider-low, exact-physical, One, whole-one}
 
 -- ---- an address, and the entry for it in a table whose addresses start at a
 record Placed (k a x i : ℕ) : Type 0 where

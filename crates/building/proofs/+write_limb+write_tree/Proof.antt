@@ -8,7 +8,8 @@ use Rattle.mapping.specs.Lists.{held}
 use Rattle.layout.specs.Layout as Layout
 use Rattle.layout.specs.Rows.{flat}
 use Rattle.layout.specs.Laws.{limbAt}
-use Rattle.building.specs.Writing.{limbs-start, limbs-go, limbs-end, next-starts, next-goes, limb-fits, part-inside, sum-fits, limb-fit, writing}
+use Rattle.building.specs.Gaps.{gap-inside, next-passed, limbs-passed}
+use Rattle.building.specs.Writing.{limbs-start, limbs-go, limbs-end, next-starts, next-after, next-ends, limb-fits, limb-fit, limb-none, limb-not, limb-yes}
 use borrow.Author.Needs.{needs}
 use borrow.Fn.Kinds.{In}
 use borrow.Fn.PlainCycle.{Measures, is, falls, and}
@@ -19,7 +20,7 @@ use Rattle.building.proofs.write_tree.Reads as write-tree
 use Rattle.building.proofs.write_tree.Kinds as write-tree-kinds
 use Rattle.building.proofs.+write_limb+write_tree.Lts-write_tree as write-tree-lts
 use Rattle.entries.proofs.is_deeper.Reads as is-deeper-reads
-use Rattle.building.proofs.below_of.Reads as below-of-reads
+use Rattle.building.proofs.gap_of.Reads as gap-of-reads
 use Rattle.building.proofs.part_of.Reads as part-of-reads
 use Rattle.building.proofs.write_row.Reads as write-row-reads
 use Rattle.building.proofs.+write_limb+write_tree.{statement}
@@ -47,10 +48,10 @@ abbrev write-limb-claims : ℕ → write-limb-lts.Claims
 write-limb-claims t = (is-deeper-reads.Asked, is-deeper-reads.Learnt, write-tree-below t, write-tree.Post)
 
 abbrev write-tree-claims : ℕ → write-tree-lts.Claims
-write-tree-claims t = (write-row-reads.Asked, write-row-reads.Learnt, part-of-reads.Asked, part-of-reads.Learnt, write-limb-below t, write-limb.Post, below-of-reads.Asked, below-of-reads.Learnt)
+write-tree-claims t = (write-row-reads.Asked, write-row-reads.Learnt, part-of-reads.Asked, part-of-reads.Learnt, gap-of-reads.Asked, gap-of-reads.Learnt, write-limb-below t, write-limb.Post)
 
 write-limb-returns : (t : ℕ) → write-limb-lts.Need-returns (write-limb-claims t) (write-limb-at t) write-limb.Post
-write-limb-returns t c = search (needs, writing)
+write-limb-returns t c = limb-none _ _ _ _ _ (search needs)
 
 write-limb-is-deeper-requires : (t : ℕ) → write-limb-lts.Need-is-deeper-requires (write-limb-claims t) (write-limb-at t) write-limb.Post
 write-limb-is-deeper-requires t c κs = search needs
@@ -65,10 +66,10 @@ write-limb-same-length : (t : ℕ) → write-limb-lts.Need-same-length (write-li
 write-limb-same-length t c = search needs
 
 write-limb-returns-2 : (t : ℕ) → write-limb-lts.Need-returns-2 (write-limb-claims t) (write-limb-at t) write-limb.Post
-write-limb-returns-2 t c = search (needs, writing)
+write-limb-returns-2 t c = limb-yes _ _ _ (c .before .before .before .before .before .before .if1 .left) _ (c .before .before .before .before .before .is-deeper .ensures) _ _ _ _ (c .before .before .before .before .if2 .taken) (c .before .before .write-tree .ensures)
 
 write-limb-returns-3 : (t : ℕ) → write-limb-lts.Need-returns-3 (write-limb-claims t) (write-limb-at t) write-limb.Post
-write-limb-returns-3 t c = search (needs, writing)
+write-limb-returns-3 t c = limb-not _ _ _ (c .before .before .if1 .left) _ (c .before .is-deeper .ensures) _ _ (c .if2 .left)
 
 abbrev write-tree-Inv-loop : write-tree-lts.InvT-loop
 write-tree-Inv-loop numbers₀ lists world level a t next₀ i₀ numbers next i = (i ≤ 512) × (numbers ≡ laid numbers₀ (512 * t + 512) (flat (limbAt (held lists world) level a t) i)) × (next ≡ Layout.next (held lists world) level a t i)
@@ -88,37 +89,44 @@ write-tree-loop-holds t c = (search needs, limbs-start _ _ _ _ _, next-starts _ 
 write-tree-part-of-requires : (t : ℕ) → write-tree-lts.Need-part-of-requires (write-tree-claims t) (write-tree-at t) write-tree.Post write-tree-Inv-loop write-tree-μ-loop
 write-tree-part-of-requires t c κs = (c .before .before .before .before .before .before .before .pre .1 .room, search needs)
 
-write-tree-write-limb-requires : (t : ℕ) → write-tree-lts.Need-write-limb-requires (write-tree-claims t) (write-tree-at t) write-tree.Post write-tree-Inv-loop write-tree-μ-loop
-write-tree-write-limb-requires t c κs = let h : c .before .before .before .loop .i < 512 = omega arith in (omega arith, limb-fits _ _ _ _ _ _ (c .before .before .before .loop .inv .2) (c .before .before .before .before .before .before .before .before .before .pre .1) h _ (c .before .part-of .ensures))
+write-tree-sub-gap-of : (t : ℕ) → write-tree-lts.Need-sub-gap-of (write-tree-claims t) (write-tree-at t) write-tree.Post write-tree-Inv-loop write-tree-μ-loop
+write-tree-sub-gap-of t c = search needs
 
-write-tree-below-of-requires : (t : ℕ) → write-tree-lts.Need-below-of-requires (write-tree-claims t) (write-tree-at t) write-tree.Post write-tree-Inv-loop write-tree-μ-loop
-write-tree-below-of-requires t c κs = let h : c .before .before .before .before .before .before .loop .i < 512 = omega arith in part-inside _ _ _ (c .before .before .before .before .before .before .before .before .before .before .before .before .pre .1 .room) h _ (c .before .before .before .before .part-of .ensures)
-
-write-tree-add-next-2 : (t : ℕ) → write-tree-lts.Need-add-next-2 (write-tree-claims t) (write-tree-at t) write-tree.Post write-tree-Inv-loop write-tree-μ-loop
-write-tree-add-next-2 t c = let h : c .before .before .before .before .before .before .before .loop .i < 512 = omega arith in omega (arith, sum-fits _ _ _ _ _ _ (c .before .before .before .before .before .before .before .loop .inv .2) (c .before .before .before .before .before .before .before .before .before .before .before .before .before .pre .1) h _ (c .before .before .before .before .before .part-of .ensures) _ (c .below-of .ensures))
+write-tree-gap-of-requires : (t : ℕ) → write-tree-lts.Need-gap-of-requires (write-tree-claims t) (write-tree-at t) write-tree.Post write-tree-Inv-loop write-tree-μ-loop
+write-tree-gap-of-requires t c κs = (search needs, search needs)
 
 write-tree-add-i : (t : ℕ) → write-tree-lts.Need-add-i (write-tree-claims t) (write-tree-at t) write-tree.Post write-tree-Inv-loop write-tree-μ-loop
-write-tree-add-i t c = search needs
+write-tree-add-i t c = omega (arith, c .gap-of .ensures .few)
+
+write-tree-same-length : (t : ℕ) → write-tree-lts.Need-same-length (write-tree-claims t) (write-tree-at t) write-tree.Post write-tree-Inv-loop write-tree-μ-loop
+write-tree-same-length t c = ap length (c .before .before .before .before .loop .inv .1) ∙ length-laid _ _ _ ∙ c .before .before .before .before .before .before .before .write-row .kept .0
+
+write-tree-returns : (t : ℕ) → write-tree-lts.Need-returns (write-tree-claims t) (write-tree-at t) write-tree.Post write-tree-Inv-loop write-tree-μ-loop
+write-tree-returns t c = (next-ends _ _ _ _ _ _ (next-passed _ _ _ _ _ _ (c .before .before .part-of .ensures) (c .before .gap-of .ensures) _ _ (c .before .before .before .before .loop .inv .2)) (search needs) (gap-inside _ _ _ _ _ _ (c .before .before .part-of .ensures) (c .before .gap-of .ensures) (search needs)), limbs-end _ _ _ _ _ _ _ _ (c .before .before .before .before .before .before .before .write-row .ensures) (limbs-passed _ _ _ _ _ _ (c .before .before .part-of .ensures) (c .before .gap-of .ensures) _ _ _ (c .before .before .before .before .loop .inv .1)) (search needs) (gap-inside _ _ _ _ _ _ (c .before .before .part-of .ensures) (c .before .gap-of .ensures) (search needs)))
+
+write-tree-part-of-requires-2 : (t : ℕ) → write-tree-lts.Need-part-of-requires-2 (write-tree-claims t) (write-tree-at t) write-tree.Post write-tree-Inv-loop write-tree-μ-loop
+write-tree-part-of-requires-2 t c κs = (c .before .before .before .before .before .before .before .before .before .before .before .pre .1 .room, search needs)
+
+write-tree-write-limb-requires : (t : ℕ) → write-tree-lts.Need-write-limb-requires (write-tree-claims t) (write-tree-at t) write-tree.Post write-tree-Inv-loop write-tree-μ-loop
+write-tree-write-limb-requires t c κs = (omega arith, limb-fits _ _ _ _ _ _ (next-passed _ _ _ _ _ _ (c .before .before .before .before .part-of .ensures) (c .before .before .before .gap-of .ensures) _ _ (c .before .before .before .before .before .before .loop .inv .2)) (c .before .before .before .before .before .before .before .before .before .before .before .before .pre .1) (search needs) _ (c .part-of2 .ensures))
+
+write-tree-add-i-2 : (t : ℕ) → write-tree-lts.Need-add-i-2 (write-tree-claims t) (write-tree-at t) write-tree.Post write-tree-Inv-loop write-tree-μ-loop
+write-tree-add-i-2 t c = search needs
 
 write-tree-loop-less : (t : ℕ) → write-tree-lts.Need-loop-less (write-tree-claims t) (write-tree-at t) write-tree.Post write-tree-Inv-loop write-tree-μ-loop
 write-tree-loop-less t c = search needs
 
 write-tree-loop-again : (t : ℕ) → write-tree-lts.Need-loop-again (write-tree-claims t) (write-tree-at t) write-tree.Post write-tree-Inv-loop write-tree-μ-loop
-write-tree-loop-again t c =
-    let h : c .before .before .before .before .before .before .before .loop .i < 512 = omega arith in (
-      search needs,
-      limbs-go _ _ _ _ _ _ _ _ _ _ (c .before .before .before .before .before .before .before .loop .inv .1) (c .before .before .before .before .before .before .before .loop .inv .2) (c .before .before .before .before .before .part-of .ensures) (c .before .before .before .write-limb .ensures),
-      next-goes _ _ _ _ _ _ (c .before .before .before .before .before .before .before .loop .inv .2) (c .before .before .before .before .before .before .before .before .before .before .before .before .before .pre .1) h _ (c .before .before .before .before .before .part-of .ensures) _ (c .below-of .ensures),
-    )
+write-tree-loop-again t c = (search needs, limbs-go _ _ _ _ _ _ _ _ _ _ (limbs-passed _ _ _ _ _ _ (c .before .before .before .before .before .before .before .part-of .ensures) (c .before .before .before .before .before .before .gap-of .ensures) _ _ _ (c .before .before .before .before .before .before .before .before .before .loop .inv .1)) (next-passed _ _ _ _ _ _ (c .before .before .before .before .before .before .before .part-of .ensures) (c .before .before .before .before .before .before .gap-of .ensures) _ _ (c .before .before .before .before .before .before .before .before .before .loop .inv .2)) (c .before .before .before .part-of2 .ensures) (c .before .before .write-limb .ensures .1), next-after _ _ _ _ _ _ (next-passed _ _ _ _ _ _ (c .before .before .before .before .before .before .before .part-of .ensures) (c .before .before .before .before .before .before .gap-of .ensures) _ _ (c .before .before .before .before .before .before .before .before .before .loop .inv .2)) (c .before .before .before .before .before .before .before .before .before .before .before .before .before .before .before .pre .1) (search needs) _ (c .before .before .before .part-of2 .ensures) _ (c .before .before .write-limb .ensures .0))
 
-write-tree-same-length : (t : ℕ) → write-tree-lts.Need-same-length (write-tree-claims t) (write-tree-at t) write-tree.Post write-tree-Inv-loop write-tree-μ-loop
-write-tree-same-length t c = ap length (c .before .loop .inv .1) ∙ length-laid _ _ _ ∙ c .before .before .before .before .write-row .kept .0
+write-tree-same-length-2 : (t : ℕ) → write-tree-lts.Need-same-length-2 (write-tree-claims t) (write-tree-at t) write-tree.Post write-tree-Inv-loop write-tree-μ-loop
+write-tree-same-length-2 t c = ap length (c .before .loop .inv .1) ∙ length-laid _ _ _ ∙ c .before .before .before .before .write-row .kept .0
 
-write-tree-returns : (t : ℕ) → write-tree-lts.Need-returns (write-tree-claims t) (write-tree-at t) write-tree.Post write-tree-Inv-loop write-tree-μ-loop
-write-tree-returns t c = limbs-end _ _ _ _ _ _ _ _ (c .before .before .before .before .write-row .ensures) (c .before .loop .inv .1) (search needs) (search needs)
+write-tree-returns-2 : (t : ℕ) → write-tree-lts.Need-returns-2 (write-tree-claims t) (write-tree-at t) write-tree.Post write-tree-Inv-loop write-tree-μ-loop
+write-tree-returns-2 t c = (next-ends _ _ _ _ _ _ (c .before .loop .inv .2) (search needs) (search needs), limbs-end _ _ _ _ _ _ _ _ (c .before .before .before .before .write-row .ensures) (c .before .loop .inv .1) (search needs) (search needs))
 
 pub +write-limb+write-tree-spec : {M : Type 1} → statement M
 +write-limb+write-tree-spec =
     close μ-write-limb μ-write-tree
     (λ t. write-limb-lts.spec (write-limb-claims t) (write-limb-at t) write-limb.Post (write-limb-returns t) (write-limb-is-deeper-requires t) (write-limb-sub-write-tree t) (write-limb-write-tree-requires t) (write-limb-same-length t) (write-limb-returns-2 t) (write-limb-returns-3 t))
-    (λ t. write-tree-lts.spec (write-tree-claims t) (write-tree-at t) write-tree.Post write-tree-Inv-loop write-tree-μ-loop (write-tree-write-row-requires t) (write-tree-add-next t) (write-tree-loop-holds t) (write-tree-part-of-requires t) (write-tree-write-limb-requires t) (write-tree-below-of-requires t) (write-tree-add-next-2 t) (write-tree-add-i t) (write-tree-loop-less t) (write-tree-loop-again t) (write-tree-same-length t) (write-tree-returns t))
+    (λ t. write-tree-lts.spec (write-tree-claims t) (write-tree-at t) write-tree.Post write-tree-Inv-loop write-tree-μ-loop (write-tree-write-row-requires t) (write-tree-add-next t) (write-tree-loop-holds t) (write-tree-part-of-requires t) (write-tree-sub-gap-of t) (write-tree-gap-of-requires t) (write-tree-add-i t) (write-tree-same-length t) (write-tree-returns t) (write-tree-part-of-requires-2 t) (write-tree-write-limb-requires t) (write-tree-add-i-2 t) (write-tree-loop-less t) (write-tree-loop-again t) (write-tree-same-length-2 t) (write-tree-returns-2 t))
