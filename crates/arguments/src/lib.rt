@@ -1,6 +1,5 @@
 // The words by which a program over tables is asked: a world's name, and a number in decimal digits.
 ghost use mathlib.Core.Path.{_≡_};
-ghost use mathlib.Core.List.{[], _∷_};
 ghost use Prim.Native.Nat.{_≤_};
 ghost use lib.ListN.{getD};
 ghost use Rattle.arguments.specs.Words.{isWord, worldOf, digitOf, capped, counted};

@@ -1,20 +1,19 @@
 -- Entries that no mapping touches, several at once: they are 0 and have no table below them.
-use mathlib.Core.Path.{_≡_, refl, sym, ap, _∙_}
-use mathlib.Core.Bool.{Bool, true, false}
-use mathlib.Core.List.{List, [], _∷_, _++_}
+use mathlib.Core.Path.{_≡_, refl, sym, _∙_}
+use mathlib.Core.Bool.{Bool, false}
+use mathlib.Core.List.{List, [], _∷_}
 use Prim.Native.Nat.{ℕ, zero, suc, _+_, _-_, _*_, _/_, _≤_, _<_}
 use native.Mathlib.Nat.{add-mul}
 use native.Mathlib.Numerals.{add-one}
 use native.Mathlib.Omega.{arith}
-use lib.ListN.{length, set}
+use lib.ListN.{set}
 use Rattle.rules.specs.Choice.{pick-no}
 use Rattle.tools.specs.Laid.{laid, then, laid-one}
 use Rattle.ranges.specs.declared.Mapping.{Mapping}
-use Rattle.mapping.specs.Mapping.{hasExactly, touched}
+use Rattle.mapping.specs.Mapping.{touched}
 use Rattle.mapping.specs.Lists.{held, held-some}
 use Rattle.descriptors.specs.Numbers.{span, span-some}
 use Rattle.stretches.specs.Steady.{steady, steady-most}
-use Rattle.entries.specs.Entries.{deeper, entry}
 use Rattle.entries.specs.Touched.{untouched-deeper, untouched-entry, steady-untouched}
 use Rattle.layout.specs.Rows.{rows, flat, total, nil, length-rows, total-skip, flat-skip, rows-skip}
 use Rattle.layout.specs.Layout.{part, below, belowAt, next, entryAt}

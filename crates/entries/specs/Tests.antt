@@ -1,13 +1,13 @@
 -- How the tests of the code meet the definitions of an entry.
 use mathlib.Core.Path.{_≡_, refl, sym, ap, _∙_}
-use mathlib.Core.Bool.{Bool, true, false, not, _&&_}
+use mathlib.Core.Bool.{Bool, true, false, _&&_}
 use mathlib.Core.List.{List}
 use mathlib.Core.Option.{Option, none, some}
 use Prim.Native.Nat.{ℕ, zero, suc, _+_, _-_, _*_, _/_, _%_, _^_, _≤_, _<_}
 use native.Mathlib.Omega.{arith}
 use lib.Count.{trailingZeros}
 use borrow.Author.Tests.{le-leb, lt-leb}
-use Rattle.rules.specs.Choice.{pick, picked, passed}
+use Rattle.rules.specs.Choice.{picked, passed}
 use Rattle.rules.specs.Sizes.{pageSize}
 use Rattle.tools.specs.Search.{all}
 use Rattle.ranges.specs.declared.Mapping.{Mapping}

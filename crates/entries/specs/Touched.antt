@@ -1,9 +1,9 @@
 -- Addresses that no mapping touches: nothing decides them, and no entry has anything to say of them.
-use mathlib.Core.Path.{_≡_, refl, sym, _∙_}
-use mathlib.Core.Bool.{Bool, true, false, not}
+use mathlib.Core.Path.{_≡_, refl, _∙_}
+use mathlib.Core.Bool.{true, false, not}
 use mathlib.Core.List.{List}
 use mathlib.Core.Option.{Option, none, some}
-use Prim.Native.Nat.{ℕ, zero, suc, _+_, _*_, _≤_, _<_}
+use Prim.Native.Nat.{ℕ, _+_, _≤_, _<_}
 use native.Mathlib.Omega.{arith}
 use lib.Dec.{eqb, leb}
 use borrow.Author.Tests.{eq-eqb, leb-true, leb-false, eqb-false}
@@ -15,7 +15,7 @@ use Rattle.mapping.specs.Entries.{Among, any-less, any-among, among-any}
 use Rattle.mapping.specs.Deciding.{Sought, missing, smallest, sought, deciding-none}
 use Rattle.descriptors.specs.Numbers.{span, span-some}
 use Rattle.stretches.specs.Steady.{steady, steady-decides}
-use Rattle.entries.specs.Entries.{blockBy, block, leaf, whole, deeper, entry}
+use Rattle.entries.specs.Entries.{leaf, whole, deeper, entry}
 
 -- ---- one mapping
 module _ (x : ℕ) (m : Mapping) where

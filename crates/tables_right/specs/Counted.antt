@@ -6,7 +6,7 @@ use mathlib.Core.List.{List}
 use Prim.Native.Nat.{ℕ, zero, suc, _+_, _*_, _≤_, _<_}
 use native.Mathlib.Nat.{add-zero, suc-mul}
 use native.Mathlib.Omega.{arith}
-use Rattle.rules.specs.Choice.{pick, pick-yes, pick-no, by, either, left-true, right-true, left-false, right-false, yes-or-no}
+use Rattle.rules.specs.Choice.{pick, by, left-false}
 use Rattle.tools.specs.Count.{bit, count}
 use Rattle.ranges.specs.Ranges.{meet-inside}
 use Rattle.ranges.specs.declared.Mapping.{Mapping}
@@ -14,7 +14,7 @@ use Rattle.mapping.specs.Mapping.{touched, touches}
 use Rattle.mapping.specs.Entries.{any-less}
 use Rattle.descriptors.specs.Numbers.{span}
 use Rattle.entries.specs.Entries.{block, whole, deeper}
-use Rattle.layout.specs.Rows.{total, total-most}
+use Rattle.layout.specs.Rows.{total}
 use Rattle.layout.specs.Layout.{part, tables, below, belowAt}
 use Rattle.layout.specs.Laws.{tables-are}
 

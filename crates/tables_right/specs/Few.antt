@@ -11,7 +11,7 @@ use Rattle.pages.specs.Window.{acceptable}
 use Rattle.pages.specs.declared.Window.{Window}
 use Rattle.ranges.specs.Ranges.{meet-before}
 use Rattle.ranges.specs.declared.Mapping.{Mapping}
-use Rattle.mapping.specs.Mapping.{anyOf, touched, touches}
+use Rattle.mapping.specs.Mapping.{touched, touches}
 use Rattle.mapping.specs.Entries.{Every, every-among, among-any}
 use Rattle.mapping.specs.Sound.{Formed, Sound}
 use Rattle.entries.specs.Entries.{block}

@@ -1,15 +1,13 @@
 -- The numbers that a build writes say what they were written for.
 use mathlib.Core.Path.{_≡_, refl, sym, _∙_}
-use mathlib.Core.Bool.{true, false, _&&_}
+use mathlib.Core.Bool.{true, false}
 use Prim.Native.Nat.{ℕ, zero, suc, _+_, _-_, _*_, _/_, _%_, _≤_, _<_}
 use native.Mathlib.Nat.{mod-eq-of-lt}
 use native.Mathlib.Omega.{arith}
-use lib.Dec.{eqb, leb, ltb}
 use borrow.Author.Tests.{eq-eqb, lt-ltb, le-leb}
-use Rattle.rules.specs.Choice.{pick, pick-yes, pick-no, both-true}
+use Rattle.rules.specs.Choice.{pick-yes, pick-no, both-true}
 use Rattle.descriptors.specs.Numbers.{span, kindOf, baseOf, attrOf, leafNumber, tableNumber}
 use Rattle.descriptors.specs.Meaning.{isTable, proper, meaning, means-clear, means-table, means-leaf, proper-kept}
-use Rattle.descriptors.specs.declared.Descriptor.{Descriptor}
 use Rattle.descriptors.specs.declared.Descriptor.the-variants.{Nothing, Table, Leaf}
 
 -- an unused entry

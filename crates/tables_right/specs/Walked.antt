@@ -1,13 +1,11 @@
 -- The walk of the tables leads where the list says.
-use mathlib.Core.Path.{_≡_, refl, sym, ap, _∙_}
-use mathlib.Core.Bool.{Bool, true, false, not, _&&_}
-use mathlib.Core.List.{List, [], _++_}
+use mathlib.Core.Path.{_≡_, refl, _∙_}
+use mathlib.Core.Bool.{Bool, true, false}
+use mathlib.Core.List.{List}
 use mathlib.Core.Option.{Option, none, some}
 use Prim.Native.Nat.{ℕ, zero, suc, _+_, _-_, _*_, _/_, _%_, _≤_, _<_}
 use native.Mathlib.Omega.{arith}
-use lib.ListN.{length}
 use Rattle.rules.specs.Choice.{pick, by, pick-yes, pick-no, both-true, not-true, yes-or-no}
-use Rattle.tools.specs.Laid.{laid}
 use Rattle.pages.specs.Window.{Acceptable}
 use Rattle.pages.specs.declared.Window.{Window}
 use Rattle.ranges.specs.declared.Mapping.{Mapping}
@@ -15,7 +13,6 @@ use Rattle.mapping.specs.Mapping.{deciding, leading, leadOf, touched}
 use Rattle.mapping.specs.Entries.{Every}
 use Rattle.mapping.specs.Sound.{Formed}
 use Rattle.mapping.specs.declared.Lead.{Lead}
-use Rattle.mapping.specs.declared.Lead.the-variants.{To, Nowhere}
 use Rattle.descriptors.specs.Numbers.{span, tableNumber}
 use Rattle.descriptors.specs.Meaning.{meaning}
 use Rattle.walks.specs.Walk.{entryFor, led, descended}

@@ -1,6 +1,6 @@
 -- A count of trailing zero bits says by which power of two a number divides.
 use mathlib.Core.Path.{_≡_, refl}
-use Prim.Native.Nat.{ℕ, zero, suc, _+_, _*_, _/_, _%_, _^_, _≤_, _<_}
+use Prim.Native.Nat.{ℕ, zero, suc, _+_, _*_, _/_, _%_, _^_, _≤_}
 use native.Mathlib.Nat.{le-of-suc-le-suc, pow-suc}
 use native.Mathlib.Omega.{arith}
 use lib.Arith.{mod-mul}

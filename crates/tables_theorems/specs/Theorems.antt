@@ -1,12 +1,11 @@
 -- The tables of a world's mappings, after any run: they lead every address where the monitor says it leads.
-use mathlib.Core.Path.{_≡_, refl, sym, ap, _∙_}
-use mathlib.Core.Bool.{true, false}
+use mathlib.Core.Path.{_≡_, refl, ap, _∙_}
+use mathlib.Core.Bool.{true}
 use mathlib.Core.List.{List, []}
-use Prim.Native.Nat.{ℕ, _+_, _*_, _≤_, _<_}
+use Prim.Native.Nat.{ℕ, _≤_}
 use native.Mathlib.Omega.{arith}
-use lib.ListN.{length, getD}
+use lib.ListN.{length}
 use Rattle.rules.specs.Choice.{pick, either}
-use Rattle.rules.specs.Reasons.{minus}
 use Rattle.rules.specs.declared.Reason.the-variants as Reason
 use Rattle.pages.specs.Window.{acceptable, accepted}
 use Rattle.pages.specs.declared.Window.{Window}
@@ -21,9 +20,7 @@ use Rattle.judgements.specs.Judge.{HandlerSight, argsOf, leading, board, rowIn,
 use Rattle.judgements.specs.Asked.{key}
 use Rattle.judgements.specs.declared.Args.{Args}
 use Rattle.judgements.specs.declared.Judged.{Judged}
-use Rattle.judgements.specs.declared.Row.the-variants.{Is as IsRow, NoTransfer}
 use Rattle.judgements.specs.declared.Answer.the-variants.{Leads, No}
-use Rattle.answers.specs.Answers.{written}
 use Rattle.calls.specs.Step.{sight, judgedIn}
 use Rattle.calls.specs.Effects.{answerIn}
 use Rattle.parsing.specs.declared.Frame.the-variants as Frame
@@ -32,7 +29,7 @@ use Rattle.setup.specs.Table.{ready}
 use Rattle.frames.specs.Frames.{Machine, first, stateOf}
 use Rattle.showing.specs.declared.Reply.{Reply}
 use Rattle.inputs.specs.Run.{leftBy, left-reached}
-use Rattle.guarantees.specs.Runs.{Event, Events, Taken, ran, Allowed, Follows, follows-is, follows-ran}
+use Rattle.guarantees.specs.Runs.{Event, Events, Taken, Allowed, Follows, follows-is, follows-ran}
 use Rattle.guarantees.specs.Fit.{Fit, ran-fit}
 use Rattle.guarantees.specs.Statements.{window, mapped, caller, arg, Is, denied, x, HeededCall}
 use Rattle.guarantees.specs.Theorems.{any-line}

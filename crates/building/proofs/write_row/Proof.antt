@@ -1,6 +1,6 @@
 -- `write_row` meets its promise, since each pass lays the zeros of a gap and one entry behind those before.
 use mathlib.Core.Path.{_≡_, ap, _∙_}
-use Prim.Native.Nat.{_+_, _-_, _*_, _≤_, _<_}
+use Prim.Native.Nat.{_-_, _*_, _≤_}
 use native.Mathlib.Omega.{arith}
 use lib.ListN.{length}
 use Rattle.tools.specs.Laid.{laid, length-laid}

@@ -1,5 +1,4 @@
 -- `pages_alike` meets its promise, since the mappings decide alike up to the next edge of any.
-use native.Mathlib.Omega.{arith}
 use Rattle.entries.specs.Tests.{alike-one, alike-some, alike-many}
 use borrow.Author.Needs.{needs}
 use Rattle.entries.proofs.pages_alike.Statement.{statement}
