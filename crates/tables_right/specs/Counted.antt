@@ -1,4 +1,4 @@
--- How many tables there are, in the paper's words: one of level 1, one of level 2 for each GiB touched, and one of level 3 for each
+-- How many tables there are and in which order they lie, in the paper's words: one of level 1, one of level 2 for each GiB touched, and one of level 3 for each
 -- touched slot that is no block.
 use mathlib.Core.Path.{_≡_, refl, sym, ap, _∙_}
 use mathlib.Core.Bool.{Bool, true, false, not, _&&_}
@@ -15,7 +15,7 @@ use Rattle.mapping.specs.Entries.{any-less}
 use Rattle.descriptors.specs.Numbers.{span}
 use Rattle.entries.specs.Entries.{block, whole, deeper}
 use Rattle.layout.specs.Rows.{total}
-use Rattle.layout.specs.Layout.{part, tables, below, belowAt}
+use Rattle.layout.specs.Layout.{part, tables, below, belowAt, next}
 use Rattle.layout.specs.Laws.{tables-are}
 
 -- ---- totals
@@ -128,10 +128,25 @@ module _ (l : List Mapping) where
       (by (λ (c : Bool). touched l b 1073741824 ≡ c → pick c (tables l 1 b) 0 ≡ bit c + total (λ (j : ℕ). bit (slotPaged (g * 512 + j))) 512) (touched l b 1073741824)
       (λ _ e. when-touched _ _ t) (λ _ e. when-not _ _ (none-paged g e 512 (omega arith))) refl)
 
-  pub tables-counted : tables l 2 0 ≡ 1 + count gibTouched 0 512 + count slotPaged 0 262144
+  -- the tables below the first GiBs
+  gib-totals : (n : ℕ) → total (belowAt l 2 0) n ≡ count gibTouched 0 n + count slotPaged 0 (n * 512)
   unfolding gib-slots
-  tables-counted =
-      let a = total-same (belowAt l 2 0) (λ (g : ℕ). bit (gibTouched g) + gib-slots g) gib-below 512 in
-      let b = total-both (λ (g : ℕ). bit (gibTouched g)) gib-slots 512 in
-      let c = total-rows (λ (s : ℕ). bit (slotPaged s)) 512 512 in
-      omega (arith, tables-are l 2 0, a, b, c, total-count gibTouched 512, total-count slotPaged 262144)
+  gib-totals n =
+      let a = total-same (belowAt l 2 0) (λ (g : ℕ). bit (gibTouched g) + gib-slots g) gib-below n in
+      let b = total-both (λ (g : ℕ). bit (gibTouched g)) gib-slots n in
+      let c = total-rows (λ (s : ℕ). bit (slotPaged s)) 512 n in
+      omega (arith, a, b, c, total-count gibTouched n, total-count slotPaged (n * 512))
+
+  pub tables-counted : tables l 2 0 ≡ 1 + count gibTouched 0 512 + count slotPaged 0 262144
+  tables-counted = omega (arith, tables-are l 2 0, gib-totals 512)
+
+  -- the number of a GiB's table: behind level 1, the tables of the GiBs before it, and all that stand below these
+  pub gib-place : (g : ℕ) → next l 2 0 0 g ≡ 1 + count gibTouched 0 g + count slotPaged 0 (g * 512)
+  unfolding next
+  gib-place g = omega (arith, gib-totals g)
+
+  -- the number of a slot's table, in a GiB whose own is table t: behind that, and those of the GiB's slots before it
+  pub slot-place : (g t j : ℕ) → next l 1 (g * 1073741824) t j ≡ t + 1 + count (λ (i : ℕ). slotPaged (g * 512 + i)) 0 j
+  unfolding next
+  slot-place g t j =
+      omega (arith, total-same (belowAt l 1 (g * 1073741824)) (λ (i : ℕ). bit (slotPaged (g * 512 + i))) (slot-below g) j, total-count (λ (i : ℕ). slotPaged (g * 512 + i)) j)
