@@ -66,17 +66,25 @@ def run_of(world, base, pages, mappings):
 
 
 class Random(Run):
-    def __init__(self, seed):
+    """A random list by its seed. Where `ram` is given, the window lies in the 32 MiB from there on, and one page of it, its home,
+    is mapped at its own address and executable, first and for good."""
+
+    def __init__(self, seed, ram=None):
         self.dice = dice = random.Random(seed)
         pages = dice.choice((1, 512, 513, 1024, 1025, 2048, 2048, 4095, 4096, 4096, 4096, 4096, dice.randint(1, 4096)))
         base = dice.choice((0, 0, 0x80000000, dice.randrange(2**27) * SLOT, dice.randrange(2**36) * PAGE, 2**48 - pages * PAGE))
+        if ram is not None:
+            base = ram + dice.choice((0, SLOT, dice.randrange(4096) * PAGE))
         super().__init__(dice.choice((SECURE, NORMAL, REALM)), min(base, 2**48 - pages * PAGE), pages)
+        self.home = None if ram is None else self.base + dice.randrange(pages) * PAGE
+        if self.home is not None:
+            self.map(self.home, PAGE, self.home, 2)
         self.aligned = dice.choice((0.5, 0.95, 1))  # mappings whose slots may be blocks
         shapes = dice.choice(((self.fresh,), (self.fresh, self.beside, self.inside), (self.fresh, self.inside, self.inside),
                               (self.straddling,), (self.straddling, self.fresh)))
         for _ in range(dice.choice((0, 1, 3, 6, 12, 20, 30))):
             self.map(*dice.choice(shapes)(), dice.randrange(3))
-            if dice.random() < 0.05 and self.mappings:
+            if dice.random() < 0.05 and self.mappings and self.home is None:
                 self.call(UNMAP, *dice.choice(self.mappings)[:2])
 
     def at(self, physical, size):
