@@ -23,7 +23,7 @@ sys.dont_write_bytecode = True
 
 import cases
 import judged
-from build import as_bytes, build, tables
+from build import MOST, as_bytes, build, tables
 from damage import damage
 from lists import GIB, PAGE, SLOT, Random, run_of
 from vendor import vendor
@@ -50,9 +50,9 @@ def started(command, *arguments, run):
 # The programs' answers.
 
 
-def built_by(command, run, lent):
+def built_by(command, run, lent, world=None):
     """Status and bytes, as TABLES says them."""
-    out, error = started(command, run.world, *([] if lent is None else [lent]), run=run.text())
+    out, error = started(command, run.world if world is None else world, *([] if lent is None else [lent]), run=run.text())
     if not error:
         return 0, out
     return (0x88, out) if re.fullmatch("88[^\n]*\n?", error) else (error, out)
@@ -116,10 +116,12 @@ def compare_tables(count, seed):
     command, tally = program("TABLES"), collections.Counter()
     for number in range(seed, seed + count):
         run, dice = Random(number), random.Random(-number)
-        needed = len(tables(run.mappings))
-        lent = dice.choice((None, None, needed, needed - 1, needed + 1, needed - 512, 0, dice.randrange(22529)))
-        status, numbers = build(run.mappings, 22528 if lent is None else lent)
-        theirs = built_by(command, run, lent)
+        world = run.world if dice.randrange(10) else dice.randrange(4)
+        mappings = run.machine.maps[world]
+        needed = len(tables(mappings))
+        lent = dice.choice((None, None, needed, needed - 1, needed + 1, needed - 512, 0, dice.randrange(MOST + 1)))
+        status, numbers = build(mappings, MOST if lent is None else lent)
+        theirs = built_by(command, run, lent, world)
         if theirs != (status, as_bytes(numbers)):
             differ(f"seed {number}, {lent} numbers: {len(numbers)} and status {status:x} expected, got {theirs[0]} and {len(theirs[1]) // 8}")
         tally[f"{status:02x}"] += 1
@@ -145,6 +147,16 @@ def compare_vet(count, seed):
 # Cases by hand.
 
 
+class Nothing:
+    """A run with no frame at all."""
+
+    world = 1
+
+    @staticmethod
+    def text():
+        return b""
+
+
 def compare_cases():
     named = [name for name in ("TABLES", "VET") if name in os.environ]
     for name, world, window, mappings, lent, expected in cases.CASES:
@@ -155,6 +167,8 @@ def compare_cases():
             differ(f"{name}: build.py makes otherwise: {shown}")
         if "TABLES" in named and built_by(program("TABLES"), run, lent) != (status, as_bytes(numbers)):
             differ(f"{name}: the program makes otherwise")
+    if "TABLES" in named and built_by(program("TABLES"), Nothing, None) != (0, bytes(4096)):
+        differ("no frames: the program does not make one table of zeros")
     for name, mappings, numbers, expected in judged.cases():
         run = run_of(1, judged.BASE, judged.PAGES, mappings)
         if vet(numbers, run.mappings) != expected:

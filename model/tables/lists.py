@@ -24,15 +24,18 @@ def list_after(run, world):
 
 
 class Run:
-    """A run under way: a window that is all of one world's, and that world's calls."""
+    """A run under way: a window that is one world's, and that world's calls. A page of Normal's may follow, which it has mapped."""
 
-    def __init__(self, world, base, pages):
+    def __init__(self, world, base, pages, another=False):
         self.world, self.base, self.end = world, base, base + pages * PAGE
         self.machine, self.lines = Machine(), []
-        self.say("11%016x%04x01" % (base, pages))
+        self.say("11%016x%04x01" % (base, pages + another))
         for owner, handler in ((2, 1), (4, 2), (50, 3)):
             self.say("10%02x%02x01%02x" % (owner, owner, handler))
         self.say("120000%04x%02x" % (pages, world))
+        if another:
+            self.say("12%04x000102" % pages)
+            self.call(MAP, self.end, GIB - PAGE, PAGE, 1)
         if world in HAND_OVER:
             self.call(HAND_OVER[world])
 
@@ -75,7 +78,8 @@ class Random(Run):
         base = dice.choice((0, 0, 0x80000000, dice.randrange(2**27) * SLOT, dice.randrange(2**36) * PAGE, 2**48 - pages * PAGE))
         if ram is not None:
             base = ram + dice.choice((0, SLOT, dice.randrange(4096) * PAGE))
-        super().__init__(dice.choice((SECURE, NORMAL, REALM)), min(base, 2**48 - pages * PAGE), pages)
+        another = pages < 4096 and base + pages * PAGE < 2**48 and dice.random() < 0.5
+        super().__init__(dice.choice((SECURE, NORMAL, REALM)), min(base, 2**48 - pages * PAGE), pages, another)
         self.home = None if ram is None else self.base + dice.randrange(pages) * PAGE
         if self.home is not None:
             self.map(self.home, PAGE, self.home, 2)
