@@ -75,7 +75,7 @@ def as_bytes(numbers):
 
 def main():
     from lists import list_after
-    status, numbers = build(list_after(sys.stdin.buffer.read(), int(sys.argv[1])), int((sys.argv + [MOST])[2]))
+    status, numbers = build(list_after(sys.stdin.buffer.read(), sys.argv[1]), int((sys.argv + [MOST])[2]))
     if status:
         sys.exit(f"{status:x} the tables do not fit")
     sys.stdout.buffer.write(as_bytes(numbers))

@@ -25,7 +25,7 @@ import cases
 import judged
 from build import MOST, as_bytes, build, tables
 from damage import damage
-from lists import GIB, PAGE, SLOT, Random, run_of
+from lists import GIB, NAME, PAGE, SLOT, Random, run_of
 from vendor import vendor
 from vet import vet
 from walk import walk
@@ -52,7 +52,7 @@ def started(command, *arguments, run):
 
 def built_by(command, run, lent, world=None):
     """Status and bytes, as TABLES says them."""
-    out, error = started(command, run.world if world is None else world, *([] if lent is None else [lent]), run=run.text())
+    out, error = started(command, NAME[world or run.world], *([] if lent is None else [lent]), run=run.text())
     if not error:
         return 0, out
     return (0x88, out) if re.fullmatch("88[^\n]*\n?", error) else (error, out)
@@ -63,7 +63,7 @@ def vetted_by(command, run, numbers):
     with tempfile.NamedTemporaryFile() as file:
         file.write(as_bytes(numbers))
         file.flush()
-        out, error = started(command, run.world, file.name, run=run.text())
+        out, error = started(command, NAME[run.world], file.name, run=run.text())
     if (out, error) == (b"accepted\n", ""):
         return 0, 0
     found = re.fullmatch("(8[a-d]) ([0-9a-f]+): [^\n]+\n?", error)
@@ -116,7 +116,7 @@ def compare_tables(count, seed):
     command, tally = program("TABLES"), collections.Counter()
     for number in range(seed, seed + count):
         run, dice = Random(number), random.Random(-number)
-        world = run.world if dice.randrange(10) else dice.randrange(4)
+        world = run.world if dice.randrange(10) else dice.choice(list(NAME))
         mappings = run.machine.maps[world]
         needed = len(tables(mappings))
         lent = dice.choice((None, None, needed, needed - 1, needed + 1, needed - 512, 0, dice.randrange(MOST + 1)))

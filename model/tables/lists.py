@@ -13,14 +13,16 @@ from check import Machine  # noqa: E402
 
 PAGE, SLOT, GIB, TOP = 1 << 12, 1 << 21, 1 << 30, 1 << 32
 SECURE, NORMAL, REALM = 1, 2, 3
+NAME = {SECURE: "secure", NORMAL: "normal", REALM: "realm"}
 HAND_OVER = {SECURE: 0xF2000001, REALM: 0xC4000150}
 MAP, UNMAP = 0xC2000020, 0xC2000021
 
 
-def list_after(run, world):
+def list_after(run, name):
+    """What the world of this name holds after a run."""
     machine = Machine()
     machine.run(run)
-    return machine.maps[world]
+    return next(machine.maps[world] for world in NAME if NAME[world] == name)
 
 
 class Run:

@@ -88,7 +88,7 @@ def main():
     from lists import list_after
     with open(sys.argv[2], "rb") as file:
         numbers = from_bytes(file.read())
-    status, address = vet(numbers, list_after(sys.stdin.buffer.read(), int(sys.argv[1])))
+    status, address = vet(numbers, list_after(sys.stdin.buffer.read(), sys.argv[1]))
     if status:
         sys.exit(f"{status:x} {address:x}: not as the list has it")
     print("accepted")
