@@ -135,8 +135,8 @@ class Random(Run):
         return start, min(length, virtual + size - start), physical + start - virtual
 
     def straddling(self):
-        """Two pages on both sides of a slot's start, or many more with as little aligned: what takes most tables."""
+        """Two pages on both sides of a slot's start, behind many more with as little aligned: what takes most tables."""
         dice = self.dice
         start = min(self.free(), self.end - 2 * PAGE)
-        size = dice.choice((2, 2, 2, 2, 514, 1026, 3586)) * PAGE
+        size = dice.choice((2, 2, 2, 2, 2, 2, 2, 514) if self.mappings else (2, 514, 3586, 3586)) * PAGE
         return dice.randrange(1, 2048) * SLOT - PAGE, max(PAGE, min(size, self.end - start)), start
