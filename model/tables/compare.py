@@ -26,6 +26,7 @@ import judged
 from build import MOST, as_bytes, build, tables
 from damage import damage
 from lists import GIB, NAME, PAGE, SLOT, Random, run_of
+from check import Refusal
 from vendor import vendor
 from vet import vet
 from walk import walk
@@ -88,10 +89,11 @@ def edges(mappings, dice):
 
 def said(run, address):
     """C2000022, as the machine of check.py answers it."""
-    for start, size, to, attributes in sorted(run.mappings, key=lambda held: held[1]):
-        if start <= address < start + size:
-            return to + address - start, attributes == 1, attributes == 2
-    return None
+    try:
+        _, physical, attributes = run.machine.where(None, run.world, address)
+    except Refusal:
+        return None
+    return physical, attributes == 1, attributes == 2
 
 
 def models(count, seed):
