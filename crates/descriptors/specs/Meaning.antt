@@ -33,8 +33,8 @@ meaning k x e =
     pick (eqb (e % 2) 0) Nothing (pick (reserved k e) Nothing (pick (isTable k e) (Table (baseOf pageSize e)) (leafAt k x e)))
 
 -- ---- how the code meets these
-pub leaf-by : (k x e start size a : ℕ) → start ≡ baseOf (span k) e → size ≡ span k → a ≡ attrOf e → Leaf (start + x % size) a ≡ leafAt k x e
-leaf-by k x e start size a f g h = rw (f, g, h)
+pub leaf-by : (k x e start rest a : ℕ) → start ≡ baseOf (span k) e → rest ≡ x % span k → a ≡ attrOf e → Leaf (start + rest) a ≡ leafAt k x e
+leaf-by k x e start rest a f g h = rw (f, g, h)
 
 module _ (k e : ℕ) where
   pub table-last : k ≡ 0 → false ≡ isTable k e

@@ -1,7 +1,7 @@
 -- The numbers of a table. A level is known by how many levels are below it: 0 for pages, 1 for slots of 2 MiB, 2 for GiBs.
 use mathlib.Core.Path.{_≡_, refl}
 use Prim.Native.Nat.{ℕ, zero, suc, _+_, _-_, _*_, _/_, _%_, _≤_, _<_}
-use native.Mathlib.Nat.{div-mul-le-self, mod-lt}
+use native.Mathlib.Nat.{div-mul-le-self, div-add-mod', mod-lt}
 use native.Mathlib.Omega.{arith}
 use Rattle.rules.specs.Sizes.{pageSize, windowLimit}
 
@@ -60,6 +60,28 @@ module _ (k r : ℕ) where
 
 pub ruleset sizes = (span-page, span-slot, span-gib, kind-page, kind-block)
 
+-- a number by the span of a level
+module _ (k x : ℕ) where
+  pub whole-page : k ≡ 0 → x / pageSize ≡ x / span k
+  whole-page e = rw (← span-page k pageSize e refl)
+
+  pub whole-slot : k ≡ 1 → x / slotSize ≡ x / span k
+  whole-slot e = rw (← span-slot k slotSize e refl)
+
+  pub whole-gib : (k ≡ 0 → ⊥) → (k ≡ 1 → ⊥) → x / 1073741824 ≡ x / span k
+  whole-gib d e = rw (← span-gib k 1073741824 d e refl)
+
+  pub rest-page : k ≡ 0 → x % pageSize ≡ x % span k
+  rest-page e = rw (← span-page k pageSize e refl)
+
+  pub rest-slot : k ≡ 1 → x % slotSize ≡ x % span k
+  rest-slot e = rw (← span-slot k slotSize e refl)
+
+  pub rest-gib : (k ≡ 0 → ⊥) → (k ≡ 1 → ⊥) → x % 1073741824 ≡ x % span k
+  rest-gib d e = rw (← span-gib k 1073741824 d e refl)
+
+pub ruleset parts = (whole-page, whole-slot, whole-gib, rest-page, rest-slot, rest-gib)
+
 -- ---- bounds
 pub span-some : (k : ℕ) → pageSize ≤ span k
 unfolding span
@@ -88,3 +110,11 @@ module _ (size k : ℕ) (s : size ≡ span k) where
 
   pub rest-fits : (x : ℕ) → x % size < 1073741824
   rest-fits x = let b : x % size < size = mod-lt x span-pos in omega (arith, span-most k)
+
+-- what is left behind the whole spans of a number is no more than it, and without that it is whole spans
+module _ (k x r : ℕ) (e : r ≡ x % span k) where
+  pub rest-le : r ≤ x
+  rest-le = omega (arith, div-add-mod' x (span k))
+
+  pub rest-off : x - r ≡ x / span k * span k
+  rest-off = omega (arith, div-add-mod' x (span k))

@@ -1,7 +1,7 @@
 // One number of a table: what it spans, what it says, and the numbers that say it. A level is known by how many levels are
 // below it: 0 for pages, 1 for slots of 2 MiB, 2 for GiBs.
 ghost use mathlib.Core.Path.{_≡_};
-ghost use Prim.Native.Nat.{_<_, _≤_};
+ghost use Prim.Native.Nat.{_/_, _%_, _<_, _≤_};
 ghost use Rattle.descriptors.specs.Numbers.{span, kindOf, baseOf, attrOf, leafNumber, tableNumber};
 ghost use Rattle.descriptors.specs.Meaning.{isTable, leafAt, proper, reserved, meaning};
 use rules::PAGE_SIZE;
@@ -45,6 +45,33 @@ pub fn span_of(below: u64) -> u64
         return SLOT_SIZE;
     }
     GIB_SIZE
+}
+
+// How many whole spans of a level a number has. Here and in the next function each span stands as a constant, so that the compiler
+// makes no division of it.
+pub fn whole_of(below: u64, x: u64) -> u64
+    ensures { λ r. ⌜ r ≡ x / span below ⌝ }
+{
+    if below == 0 {
+        return x / PAGE_SIZE;
+    }
+    if below == 1 {
+        return x / SLOT_SIZE;
+    }
+    x / GIB_SIZE
+}
+
+// What is left of it behind them.
+fn rest_of(below: u64, x: u64) -> u64
+    ensures { λ r. ⌜ r ≡ x % span below ⌝ }
+{
+    if below == 0 {
+        return x % PAGE_SIZE;
+    }
+    if below == 1 {
+        return x % SLOT_SIZE;
+    }
+    x % GIB_SIZE
 }
 
 // Bits 1 to 0 of a page or a block.
@@ -91,8 +118,8 @@ fn attr_of(number: u64) -> u64
 fn start_of(below: u64, number: u64) -> u64
     ensures { λ r. ⌜ (r ≡ baseOf (span below) number) × (r < 281474976710656) ⌝ }
 {
-    let size = span_of(below);
-    number % WINDOW_LIMIT / size * size
+    let address = number % WINDOW_LIMIT;
+    address - rest_of(below, address)
 }
 
 // Where a page or block leads an address in it.
@@ -101,7 +128,7 @@ fn leaf_at(below: u64, address: u64, number: u64) -> Descriptor
 {
     let start = start_of(below, number);
     Descriptor::Leaf {
-        phys: start + address % span_of(below),
+        phys: start + rest_of(below, address),
         attr: attr_of(number),
     }
 }

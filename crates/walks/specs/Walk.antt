@@ -11,7 +11,7 @@ use Rattle.rules.specs.Sizes.{virtualLimit}
 use Rattle.rules.specs.Choice.{pick, picked, passed, pick-yes, pick-no}
 use Rattle.mapping.specs.declared.Lead.{Lead}
 use Rattle.mapping.specs.declared.Lead.the-variants.{To, Nowhere}
-use Rattle.descriptors.specs.Numbers.{span, span-pos}
+use Rattle.descriptors.specs.Numbers.{span}
 use Rattle.descriptors.specs.Meaning.{meaning}
 use Rattle.descriptors.specs.declared.Descriptor.{Descriptor}
 use Rattle.descriptors.specs.declared.Descriptor.the-variants.{Nothing, Table, Leaf}
@@ -52,9 +52,9 @@ walked-high numbers x h = pick-no _ _ _ (le-ltb x virtualLimit h)
 pub past-end : (l : List ℕ) (i : ℕ) → length l ≤ i → 0 ≡ getD l i 0
 past-end l i h = rw (List·getD-eq-default l 0 h)
 
-pub entry-is : (numbers : List ℕ) (k table x size e : ℕ) → size ≡ span k → e ≡ getD numbers (table / 8 + x / size % 512) 0 → e ≡ entryFor numbers k table x
+pub entry-is : (numbers : List ℕ) (k table x whole e : ℕ) → whole ≡ x / span k → e ≡ getD numbers (table / 8 + whole % 512) 0 → e ≡ entryFor numbers k table x
 unfolding entryFor
-entry-is numbers k table x size e s h = rw (← s) h
+entry-is numbers k table x whole e s h = rw (← s) h
 
 module _ (numbers : List ℕ) (levels table x : ℕ) where
   pub descended-none : levels ≡ 0 → Nowhere ≡ descended numbers levels table x
@@ -85,4 +85,4 @@ module _ (numbers : List ℕ) (x : ℕ) where
   pub walked-below : (r : Lead) → x < virtualLimit → r ≡ descended numbers 3 0 x → r ≡ walked numbers x
   walked-below r h f = f ∙ sym (walked-low numbers x h)
 
-pub ruleset walking = (past-end, span-pos, entry-is, descended-none, descended-nothing, descended-table, descended-leaf, walked-above, walked-below)
+pub ruleset walking = (past-end, entry-is, descended-none, descended-nothing, descended-table, descended-leaf, walked-above, walked-below)

@@ -28,7 +28,7 @@ pub fn entry_for(numbers: &[u64], below: u64, table: u64, address: u64) -> u64
 {
     number_at(
         numbers,
-        table / 8 + address / descriptors::span_of(below) % ENTRIES,
+        table / 8 + descriptors::whole_of(below, address) % ENTRIES,
     )
 }
 

@@ -1,21 +1,21 @@
--- A number cut to a multiple of a size stays below the limit that it was cut to.
+-- What is left behind the whole spans is taken off, and what stays is below the limit that the number was cut to.
 use borrow.Author.Needs.{needs}
+use mathlib.Core.Path.{refl}
 use native.Mathlib.Omega.{arith}
-use Rattle.descriptors.specs.Numbers.{span-pos, base-fits}
+use Rattle.descriptors.specs.Numbers.{rest-le, rest-off, base-fits}
 use Rattle.descriptors.proofs.start_of.Statement.{statement}
 use Rattle.descriptors.proofs.start_of.Tie as tie
 
-span-of-requires : tie.Need-span-of-requires
-span-of-requires c κs = search needs
+rest-of-requires : tie.Need-rest-of-requires
+rest-of-requires c κs = search needs
 
-div-result : tie.Need-div-result
-div-result c = search (needs, span-pos)
-
-mul-result : tie.Need-mul-result
-mul-result c = omega (arith, base-fits _ _ (c .span-of .ensures) (c .before .args .number))
+sub-result : tie.Need-sub-result
+sub-result c = search (needs, rest-le)
 
 returns : tie.Need-returns
-returns c = (rw (← c .span-of .ensures), base-fits _ _ (c .span-of .ensures) (c .before .args .number))
+returns c =
+    let z = rest-off _ _ _ (c .rest-of .ensures) in
+    (z, omega (arith, base-fits _ (c .before .args .below) refl (c .before .args .number)))
 
 pub start-of-spec : {M : Type 1} → statement M
-start-of-spec = tie.close (tie.spec span-of-requires div-result mul-result returns)
+start-of-spec = tie.close (tie.spec rest-of-requires sub-result returns)
