@@ -1,0 +1,6 @@
+pub mod Answers
+pub mod Reached
+pub mod Pass
+pub mod Rooms
+pub mod Alike
+pub mod Scans
