@@ -1,0 +1,6 @@
+pub mod Passing
+pub mod Tree
+pub mod Exactly
+pub mod Once
+pub mod First
+pub mod Statements
