@@ -122,14 +122,15 @@ module _ (k e x : ℕ) where
 
 -- what a number says of two addresses, by what it may be
 pub means-two :
-    (k e x y : ℕ) (P : Descriptor → Descriptor → Type 0) → P Nothing Nothing → (isTable k e ≡ true → P (Table (baseOf pageSize e)) (Table (baseOf pageSize e)))
-    → P (leafAt k x e) (leafAt k y e) → P (meaning k x e) (meaning k y e)
+    (k e x y : ℕ) (P : Descriptor → Descriptor → Type 0) → P Nothing Nothing
+    → (isTable k e ≡ true → reserved k e ≡ false → P (Table (baseOf pageSize e)) (Table (baseOf pageSize e)))
+    → (isTable k e ≡ false → reserved k e ≡ false → P (leafAt k x e) (leafAt k y e)) → P (meaning k x e) (meaning k y e)
 means-two k e x y P p q r =
     either (eqb (e % 2) 0) (λ c. let h = eqb-true (e % 2) 0 c in rw (means-clear k e x h, means-clear k e y h) p)
     (λ n. let o = eqb-false (e % 2) 0 n in
     either (reserved k e) (λ v. rw (means-reserved k e x o v, means-reserved k e y o v) p)
-    (λ v. either (isTable k e) (λ t. rw (means-table k e x o v t, means-table k e y o v t) (q t)) (λ t. rw (means-leaf k e x o v t, means-leaf k e y o v t) r)))
+    (λ v. either (isTable k e) (λ t. rw (means-table k e x o v t, means-table k e y o v t) (q t v)) (λ t. rw (means-leaf k e x o v t, means-leaf k e y o v t) (r t v))))
 
 -- what is no table leads nowhere, or is a page or block
 pub other-says : (k e x : ℕ) → isTable k e ≡ false → (P : Descriptor → Type 0) → P Nothing → P (leafAt k x e) → P (meaning k x e)
-other-says k e x h P p q = means-two k e x x (λ (d c : Descriptor). P d) p (λ t. absurd (yes-or-no _ t h)) q
+other-says k e x h P p q = means-two k e x x (λ (d c : Descriptor). P d) p (λ t v. absurd (yes-or-no _ t h)) (λ t v. q)

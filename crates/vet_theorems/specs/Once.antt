@@ -32,11 +32,11 @@ module _ (t : ℕ) where
   at-is (Table u) h = rw (eqb-true u t h)
   at-is (Leaf p a) h = let z : false ≡ true = h in absurd (yes-or-no false z refl)
 
-  table-of : (k e x : ℕ) → meaning k x e ≡ Table t → (isTable k e ≡ true) × (baseOf pageSize e ≡ t)
+  pub table-of : (k e x : ℕ) → meaning k x e ≡ Table t → (isTable k e ≡ true) × (baseOf pageSize e ≡ t) × (reserved k e ≡ false)
   unfolding isAt
   table-of k e x =
-      means-two k e x x (λ (d c : Descriptor). d ≡ Table t → (isTable k e ≡ true) × (baseOf pageSize e ≡ t)) (not-table Nothing refl)
-      (λ y h. (y, same (baseOf pageSize e) h)) (not-table (Leaf _ _) refl)
+      means-two k e x x (λ (d c : Descriptor). d ≡ Table t → (isTable k e ≡ true) × (baseOf pageSize e ≡ t) × (reserved k e ≡ false)) (not-table Nothing refl)
+      (λ y v h. (y, same (baseOf pageSize e) h, v)) (λ y v. not-table (Leaf _ _) refl)
     where
       same : (u : ℕ) → Table u ≡ Table t → u ≡ t
       same u h = cc

@@ -23,7 +23,7 @@ use Rattle.vetting.specs.Pass.{outside, vetted}
 use Rattle.vetting.specs.declared.Vetted.{Vetted}
 use Rattle.vetting.specs.declared.Vetted.the-variants.{Accepted, Refused}
 use Rattle.vet_theorems.specs.Passing.{Passes, passes-plain}
-use Rattle.vet_theorems.specs.Tree.{Reached, Before, reached-lies}
+use Rattle.vet_theorems.specs.Tree.{Reached, Before, same-place, reached-lies}
 use Rattle.vet_theorems.specs.Exactly.{Answers, accepted-all, all-accepted}
 use Rattle.vet_theorems.specs.Once.{Earlier, earlier-found, apart, not-level-one}
 use Rattle.vet_theorems.specs.First.{Own, own-by, Differs, Bears, FirstAt, vetted-first}
@@ -114,15 +114,11 @@ module _ (numbers : List ℕ) where
         inside = λ k b e r. un k b e r .inside;
         plain = λ k b e r. un k b e r .plain;
         level-one = λ k b e r y z. un k b e r .new (y, inl z);
-        once = λ k b e j c f p q y z s. one un k b e j c f p q y z s;
+        once = λ k b e j c f p q y z s.
+            same-place k b j c
+            (λ w. un k b e p .new (y, inr (record { level = j; start = c; number = f; reached = q; before = w; table = z; same = sym s })))
+            (λ w. un j c f q .new (z, inr (record { level = k; start = b; number = e; reached = p; before = w; table = y; same = s })));
       }
-    where
-      one : ((k b e : ℕ) → Reached numbers k b e → Unblamed k b e) → (k b e j c f : ℕ) → Reached numbers k b e → Reached numbers j c f → isTable k e ≡ true → isTable j f ≡ true → baseOf pageSize e ≡ baseOf pageSize f → (k ≡ j) × (b ≡ c)
-      one un k b e j c f p q y z s =
-          let no : Before j c k b → ⊥ = λ w. un k b e p .new (y, inr (record { level = j; start = c; number = f; reached = q; before = w; table = z; same = sym s })) in
-          let on : Before k b j c → ⊥ = λ w. un j c f q .new (z, inr (record { level = k; start = b; number = e; reached = p; before = w; table = y; same = s })) in
-          let d : b ≡ c = either (ltb b c) (λ v. absurd (on (inl (ltb-true b c v)))) (λ v. either (ltb c b) (λ u. absurd (no (inl (ltb-true c b u)))) (λ u. let m = ltb-false b c v in let o = ltb-false c b u in omega arith)) in
-          (either (ltb k j) (λ v. absurd (no (inr (sym d, ltb-true k j v)))) (λ v. either (ltb j k) (λ u. absurd (on (inr (d, ltb-true j k u)))) (λ u. let m = ltb-false k j v in let o = ltb-false j k u in omega arith)), d)
 
   sane-passes : Sane → (k b e : ℕ) → Reached numbers k b e → Passes numbers k b e
   unfolding Clear

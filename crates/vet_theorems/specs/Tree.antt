@@ -5,7 +5,10 @@ use mathlib.Core.List.{List}
 use mathlib.Core.Logic.{_⊎_, inl, inr, ⊎-elim}
 use Prim.Native.Nat.{ℕ, zero, suc, _+_, _-_, _*_, _/_, _%_, _≤_, _<_}
 use native.Mathlib.Omega.{arith}
+use lib.Dec.{ltb}
+use borrow.Author.Tests.{ltb-true, ltb-false}
 use Rattle.rules.specs.Sizes.{pageSize}
+use Rattle.rules.specs.Choice.{either}
 use Rattle.descriptors.specs.Numbers.{span, baseOf, span-some}
 use Rattle.descriptors.specs.Meaning.{isTable}
 use Rattle.walks.specs.Walk.{entryOf}
@@ -42,6 +45,16 @@ before-both j c k b i a h g =
     (λ (u : (c ≡ b) × (k < j)).
     ⊎-elim (λ (v : b < a). inl (omega (arith, u .0))) (λ (v : (b ≡ a) × (i < k)). inr (u .0 ∙ v .0, omega (arith, u .1, v .1))) g)
     h
+
+-- of two entries of which neither comes before the other, both are one
+pub same-place : (k b j c : ℕ) → (Before j c k b → ⊥) → (Before k b j c → ⊥) → (k ≡ j) × (b ≡ c)
+same-place k b j c first second =
+    let d : b ≡ c = either (ltb b c) (λ v. absurd (second (inl (ltb-true b c v))))
+    (λ v. either (ltb c b) (λ u. absurd (first (inl (ltb-true c b u)))) (λ u. let m = ltb-false b c v in let o = ltb-false c b u in omega arith)) in (
+      either (ltb k j) (λ v. absurd (first (inr (sym d, ltb-true k j v))))
+          (λ v. either (ltb j k) (λ u. absurd (second (inr (d, ltb-true j k u)))) (λ u. let m = ltb-false k j v in let o = ltb-false j k u in omega arith)),
+      d,
+    )
 
 -- ---- the entry itself is reached
 pub itself : (numbers : List ℕ) (k b e : ℕ) → From numbers k b e k b e

@@ -1,2 +1,2 @@
-// Theorems about vetting, for any numbers and any list: accepted exactly when nothing is amiss, and else the first offence. There
-// is no code here.
+// What vetting tells, of any numbers and any list: accepted exactly when nothing is amiss, and else the first offence. Theorems for a
+// reviewer, in specs/ alone.

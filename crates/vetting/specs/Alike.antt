@@ -42,7 +42,7 @@ module _ (k e : ℕ) where
 
   answer-small : (x : ℕ) → Small (answer k e x)
   unfolding answer led Small
-  answer-small x = means-two k e x x (λ (c d : Descriptor). Small (led nowhere c)) tt (λ t. tt) (leaf-small x)
+  answer-small x = means-two k e x x (λ (c d : Descriptor). Small (led nowhere c)) tt (λ t v. tt) (λ t v. leaf-small x)
 
   module _ (x y : ℕ) (r : y % span k ≡ x % span k + (y - x)) where
     leaf-moved : baseOf (span k) e + y % span k ≡ baseOf (span k) e + x % span k + (y - x)
@@ -50,7 +50,7 @@ module _ (k e : ℕ) where
 
     answer-moved : answer k e y ≡ moved (y - x) (answer k e x)
     unfolding answer led moved
-    answer-moved = means-two k e x y (λ (c d : Descriptor). led nowhere d ≡ moved (y - x) (led nowhere c)) refl (λ t. refl) (rw leaf-moved)
+    answer-moved = means-two k e x y (λ (c d : Descriptor). led nowhere d ≡ moved (y - x) (led nowhere c)) refl (λ t v. refl) (λ t v. rw leaf-moved)
 
 module _ (l : List Mapping) (x y : ℕ) (lo : x ≤ y) (d : y < x + 1073741824) (same : deciding l y ≡ deciding l x) where
   lead-moved : Small (leadOf l x) → leadOf l y ≡ moved (y - x) (leadOf l x)

@@ -1,0 +1,3 @@
+pub mod Entries
+pub mod Ascending
+pub mod Accepted
