@@ -6,6 +6,7 @@ ghost use mathlib.Core.Path.{_≡_};
 ghost use Prim.Native.Nat.{_+_, _*_, _<_};
 ghost use Rattle.fip_entries.specs.Numbers.{eight};
 ghost use Rattle.fip_entries.specs.Entries.{entry, offset, size, flags, same, zeros, outside, begins, shares};
+pub use numbers::long_number;
 pub use numbers::number;
 
 // The statuses of reader and writer: accepted, or the number of the first rule that is broken.

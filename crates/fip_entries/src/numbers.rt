@@ -48,6 +48,13 @@ pub(crate) fn eight(s: &[u8], at: usize) -> u64
     four(s, at) + 0x100000000 * four(s, at + 4)
 }
 
+// The number in the eight bytes at a place.
+pub fn long_number(s: &[u8], at: u32) -> u64
+    ensures { λ r. ⌜ r ≡ eight (now (s .entry)) at ⌝ }
+{
+    eight(s, at as usize)
+}
+
 // Whether a is below b + c, a sum that may not fit.
 pub(crate) fn is_below(a: u64, b: u64, c: u64) -> bool
     ensures { λ r. ⌜ r ≡ ltb a (b + c) ⌝ }
