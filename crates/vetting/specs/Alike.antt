@@ -72,7 +72,7 @@ module _ (l : List Mapping) (x y : ℕ) (lo : x ≤ y) (d : y < x + 1073741824) 
       here-alike l k e y (answer-moved k e x y r ∙ ap (moved (y - x)) a ∙ sym (lead-moved s))
 
 -- ---- a search that skips those that do not pass
-first-skip : (p : ℕ → Bool) (r a n : ℕ) → r ≤ n → ((y : ℕ) → a ≤ y → y < a + r → p y ≡ false) → first p a n ≡ first p (a + r) (n - r)
+pub first-skip : (p : ℕ → Bool) (r a n : ℕ) → r ≤ n → ((y : ℕ) → a ≤ y → y < a + r → p y ≡ false) → first p a n ≡ first p (a + r) (n - r)
 unfolding first
 first-skip p zero a n h f = let z : a + 0 ≡ a = omega arith in let w : n - 0 ≡ n = omega arith in rw (z, w)
 first-skip p (suc r) a zero h f = absurd (omega arith)

@@ -4,3 +4,4 @@ pub mod Pass
 pub mod Rooms
 pub mod Alike
 pub mod Scans
+pub mod Free

@@ -51,6 +51,9 @@ module _ (k a i : ℕ) (r : Room k a) (h : i < 512) where
   part-of b e =
       rw e (record { level = r .level; ends = omega (arith, entry-ends (span k) i 512 h, r .ends); aligned = part-aligned k a i (r .level) (r .aligned) })
 
+  pub part-ends : (b : ℕ) → b ≡ place k a i → (s : ℕ) → s ≡ span k → b + s ≤ 549755813888
+  part-ends b e s f = omega (arith, part-of b e .ends)
+
 pub room-of : (k b : ℕ) → Part k b → (k ≡ 0 → ⊥) → Room (k - 1) b
 room-of zero b p d = absurd (d refl)
 room-of (suc k) b p d =

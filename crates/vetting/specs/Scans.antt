@@ -124,6 +124,12 @@ module _ (numbers : List ℕ) (l : List Mapping) (b e : ℕ) where
           unfolding rest
           judged-leaf h s = through (passed _ _ _ _ (sym j ∙ h) s)
 
+-- what is no table and not reserved is compared
+pub judged-plain : (numbers : List ℕ) (l : List Mapping) (b e k : ℕ) → isTable k e ≡ false → reserved k e ≡ false → Accepted ≡ compared l k b e → Accepted ≡ judged numbers l k b e
+unfolding outside again
+judged-plain numbers l b e k t r c =
+    judged-leaf numbers l b e k false (rw t) refl false (sym r) refl false (rw t) refl false (sym t) Accepted refl c
+
 pub ruleset judging = (judged-outside, judged-reserved, judged-again, judged-table, judged-leaf)
 
 -- a table has a level below it

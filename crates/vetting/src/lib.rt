@@ -2,6 +2,7 @@
 // The pass goes by ascending address, an upper entry before those of its table. Nothing is written, and nothing is kept from
 // entry to entry.
 mod answers;
+mod free;
 mod reached;
 
 ghost use mathlib.Core.Path.{_≡_};
@@ -11,6 +12,7 @@ ghost use Rattle.mapping.specs.Lists.{held};
 ghost use Rattle.vetting.specs.Reached.{again};
 ghost use Rattle.vetting.specs.Pass.{place, outside, compared, scan, judged, judgedAt, vetted};
 ghost use Rattle.vetting.specs.Rooms.{Room, Part};
+ghost use Rattle.vetting.specs.Free.{FreeTo};
 ghost use Rattle.vetting.specs.Scans.{isRefused};
 use mapping::Lists;
 use walks::ENTRIES;
@@ -90,11 +92,22 @@ fn place_at(below: u64, region: u64, i: u64) -> u64
     region + i * descriptors::span_of(below)
 }
 
-// The entry for the addresses from `start` on, and what lies below it.
-fn judge(numbers: &[u64], lists: &Lists, world: u64, below: u64, start: u64, number: u64) -> Vetted
-    requires { ⌜ Part below start ⌝ }
+// The entry for the addresses from `start` on, and what lies below it. Those before `free` are known to lead nowhere.
+fn judge(
+    numbers: &[u64],
+    lists: &Lists,
+    world: u64,
+    below: u64,
+    start: u64,
+    number: u64,
+    free: u64,
+) -> Vetted
+    requires { ⌜ Part below start × FreeTo (held (now lists) world) start free ⌝ }
     ensures { λ r. ⌜ r ≡ judged (now (numbers .entry)) (held (now (lists .entry)) world) below start number ⌝ }
 {
+    if free::is_free(below, start, number, free) {
+        return Vetted::Accepted;
+    }
     if is_outside(numbers, below, number) {
         return Vetted::Refused {
             status: TABLE_OUTSIDE,
@@ -133,14 +146,22 @@ fn judge_row(
     requires { ⌜ Room below region × (n ≤ 512) ⌝ }
     ensures { λ r. ⌜ r ≡ scan (judgedAt (now (numbers .entry)) (held (now (lists .entry)) world) below table region) 0 n ⌝ }
 {
+    let mut free = 0;
     let mut i = 0;
     while i < n {
         let start = place_at(below, region, i);
         let number = walks::number_at(numbers, table / 8 + i);
-        let v = judge(numbers, lists, world, below, start, number);
+        let v = judge(numbers, lists, world, below, start, number, free);
         if is_refused(v) {
             return v;
         }
+        free = free::freed(
+            lists,
+            world,
+            start + descriptors::span_of(below),
+            number,
+            free,
+        );
         i += 1;
     }
     Vetted::Accepted
