@@ -4,3 +4,4 @@ pub mod Exactly
 pub mod Once
 pub mod First
 pub mod Statements
+pub mod Reserved
