@@ -51,7 +51,7 @@ module _ (m : Machine) (fit : Fit m) (world : ℕ) where
   unfolding acceptable
   some-window = refl
 
-  by-sound : (P : List Mapping → Type 0) → ((w : Window) (o : List ℕ) (l : List Mapping) → acceptable w ≡ true → Sound w o world l → P l) → P (mapped m world)
+  pub by-sound : (P : List Mapping → Type 0) → ((w : Window) (o : List ℕ) (l : List Mapping) → acceptable w ≡ true → Sound w o world l → P l) → P (mapped m world)
   by-sound P f =
       either (ready (m .setup))
       (λ y. let r = fit .right y in f (window m) (m .owners) (mapped m world) (r .window) (r .sound world))
@@ -59,7 +59,7 @@ module _ (m : Machine) (fit : Fit m) (world : ℕ) where
 
 -- ---- from the first line on: any run that keeps the promise of the step, whatever its lines
 module _ (run : Events) (m : Machine) (given : List Reply) (f : Follows first run m given) where
-  fit : Fit m
+  pub fit : Fit m
   fit = rw (follows-is f .0) (ran-fit run)
 
   -- The walk of the tables that are built of a world's mappings leads every address where the mappings do.
