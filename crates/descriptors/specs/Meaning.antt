@@ -1,12 +1,12 @@
 -- What one number of a table says.
 use mathlib.Core.Path.{_≡_, refl, sym, _∙_}
 use mathlib.Core.Bool.{Bool, true, false, not, _&&_}
-use Prim.Native.Nat.{ℕ, zero, suc, _+_, _-_, _*_, _/_, _%_, _≤_, _<_}
+use Prim.Native.Nat.{ℕ, _+_, _-_, _%_, _≤_, _<_}
 use native.Mathlib.Omega.{arith}
 use lib.Dec.{eqb, leb, ltb}
-use borrow.Author.Tests.{eq-eqb, ne-eqb, eqb-true, eqb-false, le-leb, lt-leb, lt-ltb, le-ltb, ltb-true}
+use borrow.Author.Tests.{eq-eqb, ne-eqb, eqb-true, eqb-false, le-leb, lt-leb, lt-ltb}
 use Rattle.rules.specs.Sizes.{pageSize}
-use Rattle.rules.specs.Choice.{pick, picked, passed, either, pick-yes, pick-no, both-true, left-true, right-true, left-false, not-true, not-false, yes-or-no}
+use Rattle.rules.specs.Choice.{pick, picked, passed, either, pick-yes, pick-no, right-true, not-false, yes-or-no}
 use Rattle.descriptors.specs.Numbers.{span, baseOf, attrOf, leafNumber, tableNumber}
 use Rattle.descriptors.specs.declared.Descriptor.{Descriptor}
 use Rattle.descriptors.specs.declared.Descriptor.the-variants.{Nothing, Table, Leaf}

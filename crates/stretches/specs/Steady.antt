@@ -1,15 +1,15 @@
 -- From an address on, how far a list decides as it does there.
 use mathlib.Core.Path.{_≡_, refl, sym, _∙_}
-use mathlib.Core.Bool.{Bool, true, false}
+use mathlib.Core.Bool.{false}
 use mathlib.Core.List.{List, [], _∷_}
-use Prim.Native.Nat.{ℕ, zero, suc, _+_, _-_, _≤_, _<_}
+use Prim.Native.Nat.{ℕ, suc, _+_, _-_, _≤_, _<_}
 use native.Mathlib.Numerals.{add-one}
 use native.Mathlib.Omega.{arith}
-use lib.Dec.{ltb, eqb}
+use lib.Dec.{ltb}
 use borrow.Author.Tests.{lt-ltb, le-ltb, ltb-true, ltb-false, eq-eqb, ne-eqb, eqb-true}
 use Rattle.rules.specs.Sizes.{mostMappings}
 use Rattle.rules.specs.Choice.{pick, picked, passed, chosen, either, pick-yes, pick-no}
-use Rattle.ranges.specs.Ranges.{within, within-before, within-after}
+use Rattle.ranges.specs.Ranges.{within-before, within-after}
 use Rattle.ranges.specs.Question.{isFree}
 use Rattle.ranges.specs.declared.Mapping.{Mapping}
 use Rattle.mapping.specs.Mapping.{holds, deciding}

@@ -1,11 +1,11 @@
 -- What is built from a list of mappings is accepted against it.
 use mathlib.Core.Path.{_≡_, refl, sym, _∙_}
-use mathlib.Core.Bool.{true, false}
+use mathlib.Core.Bool.{true}
 use mathlib.Core.List.{List}
-use Prim.Native.Nat.{ℕ, _+_, _*_, _%_, _≤_, _<_}
+use Prim.Native.Nat.{ℕ, _+_, _*_, _≤_, _<_}
 use native.Mathlib.Omega.{arith}
 use lib.Dec.{ltb}
-use lib.ListN.{length, getD}
+use lib.ListN.{length}
 use borrow.Author.Tests.{ltb-true, ltb-false}
 use Rattle.rules.specs.Sizes.{pageSize}
 use Rattle.rules.specs.Choice.{either}
@@ -16,7 +16,6 @@ use Rattle.mapping.specs.Entries.{Every}
 use Rattle.mapping.specs.Sound.{Formed}
 use Rattle.descriptors.specs.Numbers.{span, baseOf}
 use Rattle.descriptors.specs.Meaning.{isTable}
-use Rattle.walks.specs.Walk.{entryOf}
 use Rattle.layout.specs.Rows.{Stands}
 use Rattle.layout.specs.Layout.{part, tables, below, next, tree}
 use Rattle.layout.specs.Laws.{length-tree, few-tables}
@@ -24,7 +23,7 @@ use Rattle.building.specs.Built.{status}
 use Rattle.tables_right.specs.Theorems.{said, left, refused-where, length-stays, tables-stand, leads-alike}
 use Rattle.vetting.specs.Pass.{vetted}
 use Rattle.vetting.specs.declared.Vetted.the-variants.{Accepted}
-use Rattle.vet_theorems.specs.Tree.{From, Reached, Before, same-place}
+use Rattle.vet_theorems.specs.Tree.{Reached, Before, same-place}
 use Rattle.vet_theorems.specs.Statements.{Sane, accepted-if}
 use Rattle.vet_built.specs.Ascending.{Good, Here, Region, some-tables, next-within, next-more, all-good, row-later, ascending}
 

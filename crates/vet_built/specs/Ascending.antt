@@ -1,8 +1,8 @@
 -- Of the entries that are reached in tables that were built, none is reserved, and those that lead to tables lead to ascending ones.
-use mathlib.Core.Path.{_≡_, refl, sym, ap, _∙_}
+use mathlib.Core.Path.{_≡_, sym, ap, _∙_}
 use mathlib.Core.Bool.{true, false}
 use mathlib.Core.List.{List}
-use mathlib.Core.Logic.{_⊎_, inl, inr, ⊎-elim}
+use mathlib.Core.Logic.{_⊎_, ⊎-elim}
 use Prim.Native.Nat.{ℕ, zero, suc, _+_, _*_, _%_, _≤_, _<_}
 use native.Mathlib.Nat.{eq-or-lt-of-le, mul-le-mul-right, suc-mul}
 use native.Mathlib.Omega.{arith}
@@ -18,7 +18,7 @@ use Rattle.mapping.specs.Sound.{Formed}
 use Rattle.descriptors.specs.Numbers.{span, baseOf, span-some, tableNumber}
 use Rattle.descriptors.specs.Meaning.{isTable, reserved}
 use Rattle.walks.specs.Walk.{entryOf}
-use Rattle.layout.specs.Rows.{total, total-within, Stands}
+use Rattle.layout.specs.Rows.{total-within, Stands}
 use Rattle.layout.specs.Layout.{part, tables, below, belowAt, next, tree}
 use Rattle.layout.specs.Laws.{tables-are}
 use Rattle.tables_right.specs.Numbers.{table-means}

@@ -1,14 +1,13 @@
 -- What stands in a table that was built: numbers that are not reserved, and the tables below, one behind the other.
-use mathlib.Core.Path.{_≡_, refl, sym, ap, _∙_}
-use mathlib.Core.Bool.{Bool, true, false, not, _&&_}
-use mathlib.Core.List.{List, [], _++_}
+use mathlib.Core.Path.{_≡_, refl, _∙_}
+use mathlib.Core.Bool.{true, false}
+use mathlib.Core.List.{List}
 use mathlib.Core.Logic.{_⊎_, inl, inr}
 use mathlib.Core.Option.{Option, none, some}
 use Prim.Native.Nat.{ℕ, zero, suc, _+_, _*_, _/_, _%_, _≤_, _<_}
 use native.Mathlib.Omega.{arith}
 use lib.Dec.{ltb}
-use Rattle.rules.specs.Sizes.{pageSize}
-use Rattle.rules.specs.Choice.{pick, either, pick-yes, pick-no, both-true, right-false, not-true, yes-or-no}
+use Rattle.rules.specs.Choice.{either, pick-yes, pick-no, both-true, right-false, not-true, yes-or-no}
 use Rattle.pages.specs.Window.{Acceptable}
 use Rattle.pages.specs.declared.Window.{Window}
 use Rattle.ranges.specs.declared.Mapping.{Mapping}
@@ -21,9 +20,9 @@ use Rattle.descriptors.specs.declared.Descriptor.{Descriptor}
 use Rattle.descriptors.specs.declared.Descriptor.the-variants.{Nothing, Table, Leaf}
 use Rattle.walks.specs.Walk.{entryOf}
 use Rattle.entries.specs.Entries.{leaf, physical, whole, deeper, entry}
-use Rattle.layout.specs.Rows.{rows, flat, total, length-rows, Stands, stands-left, stands-right, stands-rows, stands-flat, total-within}
+use Rattle.layout.specs.Rows.{rows, flat, total, length-rows, Stands, stands-left, stands-right, stands-rows, stands-flat}
 use Rattle.layout.specs.Layout.{part, tables, below, belowAt, next, entryAt, tree}
-use Rattle.layout.specs.Laws.{limb, limbAt, tables-are, tree-is, length-limb-at}
+use Rattle.layout.specs.Laws.{limb, limbAt, tree-is, length-limb-at}
 use Rattle.tables_right.specs.Numbers.{leaf-means}
 use Rattle.tables_right.specs.Decided.{decider-formed, exact-physical, whole-one}
 

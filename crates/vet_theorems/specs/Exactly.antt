@@ -9,7 +9,7 @@ use lib.Dec.{ltb}
 use lib.ListN.{length}
 use borrow.Author.Tests.{le-ltb, ltb-false}
 use Rattle.rules.specs.Sizes.{pageSize, virtualLimit}
-use Rattle.rules.specs.Choice.{pick-yes, pick-no, either, yes-or-no}
+use Rattle.rules.specs.Choice.{pick-yes, pick-no, either}
 use Rattle.ranges.specs.declared.Mapping.{Mapping}
 use Rattle.mapping.specs.Mapping.{leadOf}
 use Rattle.mapping.specs.declared.Lead.{Lead}
@@ -20,7 +20,6 @@ use Rattle.walks.specs.Walk.{entryOf, entryFor, led, descended, walked, walked-
 use Rattle.vetting.specs.Answers.{answer, otherwise, nowhere, alike-here, here-alike}
 use Rattle.vetting.specs.Pass.{place, scan, judged, judgedAt, vetted}
 use Rattle.vetting.specs.Rooms.{region-is, part-aligned}
-use Rattle.vetting.specs.declared.Vetted.{Vetted}
 use Rattle.vetting.specs.declared.Vetted.the-variants.{Accepted, Refused}
 use Rattle.vet_theorems.specs.Passing.{refused-not, scan-at, scan-if, Passes, passes-plain, compared-at, compared-if, entry-at, leaf-accepted, table-accepted, accepted-leaf, accepted-table}
 use Rattle.vet_theorems.specs.Tree.{Itself, From, Reached, itself, from-table, top-aligned}

@@ -1,7 +1,7 @@
 -- A refusal is that of the first offence in the pass: the entries before it pass, and the addresses before it are answered as by the list.
-use mathlib.Core.Path.{_≡_, refl, sym, ap, _∙_}
+use mathlib.Core.Path.{_≡_, refl, sym, _∙_}
 use mathlib.Core.Bool.{Bool, true, false}
-use mathlib.Core.List.{List, [], _∷_}
+use mathlib.Core.List.{List}
 use mathlib.Core.Logic.{_⊎_, inl, inr, ⊎-elim}
 use Prim.Native.Nat.{ℕ, zero, suc, _+_, _*_, _/_, _%_, _≤_, _<_}
 use native.Mathlib.Nat.{eq-or-lt-of-le, mul-le-mul-right, suc-mul}
@@ -25,8 +25,8 @@ use Rattle.vetting.specs.Rooms.{region-is, part-aligned, entry-ends}
 use Rattle.vetting.specs.declared.Vetted.{Vetted}
 use Rattle.vetting.specs.declared.Vetted.the-variants.{Accepted, Refused}
 use Rattle.vet_theorems.specs.Passing.{refused-not, Passes, passes-plain, judged-last, judged-next, entry-at}
-use Rattle.vet_theorems.specs.Tree.{Itself, From, Reached, Before, itself, from-table, from-lies, none-before, top-aligned}
-use Rattle.vet_theorems.specs.Exactly.{Inside, inside, finds, Answers, leaf-answers, answers-leaf, table-answers, answers-table, descended-by, accepted-answers, accepted-passes}
+use Rattle.vet_theorems.specs.Tree.{Itself, From, Reached, Before, itself, from-table, from-lies, none-before}
+use Rattle.vet_theorems.specs.Exactly.{inside, finds, Answers, leaf-answers, answers-leaf, table-answers, answers-table, descended-by, accepted-answers, accepted-passes}
 
 -- ---- the refusal of a row is that of one of its entries, and those before it are accepted
 record Stopped (f : ℕ → Vetted) (a n s x : ℕ) : Type 0 where

@@ -1,15 +1,15 @@
 -- A table that was reached before is level 1, or an entry before this one leads to it; and where none was, no two entries lead to one table.
 use mathlib.Core.Path.{_≡_, refl, sym, ap, _∙_}
-use mathlib.Core.Bool.{Bool, true, false, _||_}
+use mathlib.Core.Bool.{Bool, true, false}
 use mathlib.Core.List.{List}
 use mathlib.Core.Logic.{_⊎_, inl, inr, ⊎-elim}
 use Prim.Native.Nat.{ℕ, zero, suc, _+_, _*_, _/_, _%_, _≤_, _<_}
 use native.Mathlib.Nat.{eq-or-lt-of-le}
 use native.Mathlib.Omega.{arith}
-use lib.Dec.{eqb, ltb}
-use borrow.Author.Tests.{eq-eqb, ne-eqb, eqb-true, eqb-false, ltb-true, ltb-false}
+use lib.Dec.{eqb}
+use borrow.Author.Tests.{eq-eqb, eqb-true, ltb-true}
 use Rattle.rules.specs.Sizes.{pageSize, virtualLimit}
-use Rattle.rules.specs.Choice.{pick, pick-yes, pick-no, either, left-true, right-true, not-first, not-second, yes-or-no}
+use Rattle.rules.specs.Choice.{pick, pick-yes, pick-no, either, not-first, not-second, yes-or-no}
 use Rattle.tools.specs.Search.{any, first, first-is, any-first, any-not}
 use Rattle.descriptors.specs.Numbers.{span, slotSize, baseOf}
 use Rattle.descriptors.specs.Meaning.{isTable, reserved, meaning, last-level, table-says, means-two}

@@ -14,7 +14,7 @@ use Rattle.rules.specs.Tests.{Test, sieve, Clear}
 use Rattle.tools.specs.Search.{first, first-is}
 use Rattle.ranges.specs.declared.Mapping.{Mapping}
 use Rattle.descriptors.specs.Numbers.{span, baseOf}
-use Rattle.descriptors.specs.Meaning.{isTable, reserved, last-level}
+use Rattle.descriptors.specs.Meaning.{isTable, reserved}
 use Rattle.walks.specs.Walk.{entryOf}
 use Rattle.vetting.specs.Answers.{otherwise}
 use Rattle.vetting.specs.Pass.{orElse, scan, place, tests, refusedAt, told, compared, judged, judgedAt}

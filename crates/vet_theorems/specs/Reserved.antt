@@ -1,12 +1,12 @@
 -- Which numbers are reserved, bit by bit. A number that leads somewhere has bit 0 set.
-use mathlib.Core.Path.{_≡_, refl, sym, _∙_}
-use mathlib.Core.Bool.{Bool, true, false, not, _&&_}
-use Prim.Native.Nat.{ℕ, zero, suc, _+_, _-_, _*_, _/_, _%_, _≤_, _<_}
+use mathlib.Core.Path.{_≡_, sym, _∙_}
+use mathlib.Core.Bool.{true, false}
+use Prim.Native.Nat.{ℕ, _+_, _-_, _*_, _/_, _%_, _<_}
 use native.Mathlib.Omega.{arith}
-use lib.Dec.{eqb, ltb, leb}
-use borrow.Author.Tests.{eq-eqb, ne-eqb, eqb-true, lt-ltb}
+use lib.Dec.{eqb, ltb}
+use borrow.Author.Tests.{eq-eqb, ne-eqb, eqb-true}
 use Rattle.rules.specs.Sizes.{pageSize}
-use Rattle.rules.specs.Choice.{pick, pick-yes, pick-no, either, both-true, left-true, right-true, right-false, not-true, yes-or-no}
+use Rattle.rules.specs.Choice.{pick-yes, pick-no, either, both-true, right-true, right-false, not-true, yes-or-no}
 use Rattle.descriptors.specs.Numbers.{span, kindOf, baseOf, attrOf, leafNumber, tableNumber}
 use Rattle.descriptors.specs.Meaning.{isTable, proper, reserved, last-level, proper-kept}
 

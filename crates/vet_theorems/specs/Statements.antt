@@ -1,30 +1,28 @@
 -- What vetting tells, for any numbers of any length and any list of mappings: the statements for a reviewer.
 -- The pass is defined in `Pass` of `vetting`, the walk in `Walk` of `walks`, what a number says and which are reserved in `Meaning` of
 -- `descriptors`, the entries that are reached and their order in `Tree`.
-use mathlib.Core.Path.{_≡_, refl, sym, ap, _∙_}
+use mathlib.Core.Path.{_≡_, sym}
 use mathlib.Core.Bool.{true, false}
 use mathlib.Core.List.{List}
 use mathlib.Core.Logic.{_⊎_, inl, inr, ⊎-elim}
-use Prim.Native.Nat.{ℕ, _+_, _*_, _/_, _%_, _≤_, _<_}
+use Prim.Native.Nat.{ℕ, _+_, _*_, _/_, _≤_, _<_}
 use native.Mathlib.Omega.{arith}
-use lib.Dec.{ltb}
 use lib.ListN.{length}
-use borrow.Author.Tests.{ltb-true, ltb-false, lt-ltb, le-ltb}
+use borrow.Author.Tests.{ltb-true, lt-ltb}
 use Rattle.rules.specs.Sizes.{pageSize, virtualLimit}
-use Rattle.rules.specs.Choice.{either, both-true, left-true, right-true, left-false, yes-or-no}
+use Rattle.rules.specs.Choice.{either, both-true, left-true, right-true, yes-or-no}
 use Rattle.rules.specs.Tests.{Clear}
 use Rattle.ranges.specs.declared.Mapping.{Mapping}
 use Rattle.mapping.specs.Mapping.{leadOf}
 use Rattle.descriptors.specs.Numbers.{span, span-some, baseOf}
 use Rattle.descriptors.specs.Meaning.{isTable, reserved}
 use Rattle.walks.specs.Walk.{walked}
-use Rattle.vetting.specs.Reached.{earlier, again}
+use Rattle.vetting.specs.Reached.{again}
 use Rattle.vetting.specs.Pass.{outside, vetted}
-use Rattle.vetting.specs.declared.Vetted.{Vetted}
 use Rattle.vetting.specs.declared.Vetted.the-variants.{Accepted, Refused}
 use Rattle.vet_theorems.specs.Passing.{Passes, passes-plain}
 use Rattle.vet_theorems.specs.Tree.{Reached, Before, same-place, reached-lies}
-use Rattle.vet_theorems.specs.Exactly.{Answers, accepted-all, all-accepted}
+use Rattle.vet_theorems.specs.Exactly.{accepted-all, all-accepted}
 use Rattle.vet_theorems.specs.Once.{Earlier, earlier-found, apart, not-level-one}
 use Rattle.vet_theorems.specs.First.{Own, own-by, Differs, Bears, FirstAt, vetted-first}
 

@@ -3,7 +3,7 @@ use mathlib.Core.Path.{_≡_, refl, sym, ap, _∙_}
 use mathlib.Core.Bool.{Bool, true, false}
 use mathlib.Core.List.{List}
 use mathlib.Core.Option.{Option, none, some}
-use Prim.Native.Nat.{ℕ, zero, suc, _+_, _-_, _/_, _%_, _^_, _≤_, _<_}
+use Prim.Native.Nat.{ℕ, zero, suc, _+_, _-_, _%_, _^_, _≤_, _<_}
 use native.Mathlib.Nat.{mod-lt, div-mul-le-self}
 use native.Mathlib.Omega.{arith}
 use Rattle.rules.specs.Choice.{pick-no}
@@ -14,9 +14,8 @@ use Rattle.mapping.specs.Deciding.{deciding-low}
 use Rattle.mapping.specs.declared.Lead.{Lead}
 use Rattle.mapping.specs.declared.Lead.the-variants.{To, Nowhere}
 use Rattle.descriptors.specs.Numbers.{span, baseOf, span-some, span-most}
-use Rattle.descriptors.specs.Meaning.{meaning, leafAt, means-two}
+use Rattle.descriptors.specs.Meaning.{means-two}
 use Rattle.descriptors.specs.declared.Descriptor.{Descriptor}
-use Rattle.descriptors.specs.declared.Descriptor.the-variants.{Nothing, Table, Leaf}
 use Rattle.walks.specs.Walk.{led}
 use Rattle.stretches.specs.Steady.{steady, steady-most, steady-some, steady-decides}
 use Rattle.vetting.specs.Answers.{answer, otherwise, nowhere, alike-here, here-alike}

@@ -1,30 +1,29 @@
 -- Addresses that lead nowhere by the list, known ahead.
-use mathlib.Core.Path.{_≡_, refl, sym, ap, _∙_}
+use mathlib.Core.Path.{_≡_, refl, sym, _∙_}
 use mathlib.Core.Bool.{Bool, true, false, _&&_}
 use mathlib.Core.List.{List}
 use mathlib.Core.Option.{Option, none, some}
-use Prim.Native.Nat.{ℕ, _+_, _-_, _*_, _%_, _≤_, _<_}
+use Prim.Native.Nat.{ℕ, _+_, _-_, _%_, _≤_, _<_}
 use native.Mathlib.Numerals.{add-one}
 use native.Mathlib.Nat.{suc-mul}
 use native.Mathlib.Omega.{arith}
 use lib.Dec.{eqb, ltb, leb}
 use borrow.Author.Tests.{eq-eqb, ne-eqb, eqb-true, leb-true}
 use Rattle.rules.specs.Choice.{left-true, right-true, right-false}
-use Rattle.tools.specs.Search.{first, first-ends}
+use Rattle.tools.specs.Search.{first-ends}
 use Rattle.ranges.specs.declared.Mapping.{Mapping}
 use Rattle.mapping.specs.Mapping.{deciding, leading, leadOf}
 use Rattle.mapping.specs.declared.Lead.{Lead}
-use Rattle.mapping.specs.declared.Lead.the-variants.{To, Nowhere}
-use Rattle.descriptors.specs.Numbers.{span, baseOf}
-use Rattle.descriptors.specs.Meaning.{isTable, reserved, meaning, means-clear, reserved-clear}
+use Rattle.mapping.specs.declared.Lead.the-variants.{Nowhere}
+use Rattle.descriptors.specs.Numbers.{span}
+use Rattle.descriptors.specs.Meaning.{isTable, means-clear, reserved-clear}
 use Rattle.walks.specs.Walk.{led}
 use Rattle.stretches.specs.Steady.{steady, steady-most, steady-decides}
 use Rattle.vetting.specs.Answers.{answer, otherwise, here-alike}
-use Rattle.vetting.specs.Pass.{place, compared, judged}
+use Rattle.vetting.specs.Pass.{place, judged}
 use Rattle.vetting.specs.Alike.{first-skip}
 use Rattle.vetting.specs.Scans.{compared-yes, judged-plain}
-use Rattle.vetting.specs.declared.Vetted.{Vetted}
-use Rattle.vetting.specs.declared.Vetted.the-variants.{Accepted, Refused}
+use Rattle.vetting.specs.declared.Vetted.the-variants.{Accepted}
 
 -- from x on, before `end`
 unfoldable pub FreeTo : List Mapping → ℕ → ℕ → Type 0

@@ -1,6 +1,5 @@
 -- The walk, a level at a time as the hardware goes.
-use mathlib.Core.Path.{_≡_, refl, sym, ap, _∙_}
-use mathlib.Core.Bool.{true, false}
+use mathlib.Core.Path.{_≡_, sym, ap, _∙_}
 use mathlib.Core.List.{List}
 use Prim.Native.Nat.{ℕ, zero, suc, _+_, _-_, _/_, _%_, _<_, _≤_}
 use native.Mathlib.Omega.{arith}
@@ -8,7 +7,7 @@ use lib.Dec.{ltb}
 use lib.ListN.{getD, length, List·getD-eq-default}
 use borrow.Author.Tests.{lt-ltb, le-ltb}
 use Rattle.rules.specs.Sizes.{virtualLimit}
-use Rattle.rules.specs.Choice.{pick, picked, passed, pick-yes, pick-no}
+use Rattle.rules.specs.Choice.{pick, pick-yes, pick-no}
 use Rattle.mapping.specs.declared.Lead.{Lead}
 use Rattle.mapping.specs.declared.Lead.the-variants.{To, Nowhere}
 use Rattle.descriptors.specs.Numbers.{span}
