@@ -5,3 +5,4 @@ pub mod Once
 pub mod First
 pub mod Statements
 pub mod Reserved
+pub mod Only

@@ -156,7 +156,7 @@ module _ (numbers : List ℕ) where
   unfolding span
   slot-aligned g i = omega arith
 
-  at-gib : (c f : ℕ) → Reached numbers 2 c f → AtGib c f
+  pub at-gib : (c f : ℕ) → Reached numbers 2 c f → AtGib c f
   unfolding From
   at-gib c f r =
       let g = r .top in
@@ -169,7 +169,7 @@ module _ (numbers : List ℕ) where
       deep : (i : ℕ) → From numbers 1 (place 1 (r .top * 1073741824) i) (entryOf numbers (baseOf pageSize (entryOf numbers 0 (r .top))) i) 2 c f → ⊥
       deep i s = let z = from-lies numbers 1 (omega arith) _ _ 2 c f (slot-aligned (r .top) i) s in omega (arith, z .level)
 
-  at-slot : (c f : ℕ) → Reached numbers 1 c f → AtSlot c f
+  pub at-slot : (c f : ℕ) → Reached numbers 1 c f → AtSlot c f
   unfolding From span
   at-slot c f r =
       let g = r .top in

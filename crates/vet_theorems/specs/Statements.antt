@@ -149,16 +149,24 @@ module _ (numbers : List ℕ) (l : List Mapping) where
   accepted-if s a = all-accepted numbers l (s .room) (sane-passes numbers s) a
 
   -- ---- what is told of a refusal at x with status s
-  -- an entry bears it: 8A; or 8B and not 8A; or 8C and neither; each told with the entry's first address; or it bears none of them, is no
+  -- an entry bears 8A; or 8B and not 8A; or 8C and neither; each told with the entry's first address; or it bears none of them, is no
   -- table, and x is an address of it that is answered otherwise than by the list
+  abbrev pub Is8A : ℕ → ℕ → ℕ → ℕ → ℕ → Type 0
+  Is8A k b e s x = (s ≡ 138) × (x ≡ b) × TableOutside numbers k e
+
+  abbrev pub Is8B : ℕ → ℕ → ℕ → ℕ → ℕ → Type 0
+  Is8B k b e s x = (s ≡ 139) × (x ≡ b) × (TableOutside numbers k e → ⊥) × (reserved k e ≡ true)
+
+  abbrev pub Is8C : ℕ → ℕ → ℕ → ℕ → ℕ → Type 0
+  Is8C k b e s x = (s ≡ 140) × (x ≡ b) × (TableOutside numbers k e → ⊥) × (reserved k e ≡ false) × TableAgain numbers k b e
+
+  abbrev pub Is8D : ℕ → ℕ → ℕ → ℕ → Type 0
+  Is8D k e s x = (s ≡ 141) × (isTable k e ≡ false) × (reserved k e ≡ false) × (walked numbers x ≡ leadOf l x → ⊥)
+
   pub record Blamed (k b e s x : ℕ) : Type 0 where
     pub low : b ≤ x
     pub high : x < b + span k
-    pub offence :
-        ((s ≡ 138) × (x ≡ b) × TableOutside numbers k e)
-        ⊎ ((s ≡ 139) × (x ≡ b) × (TableOutside numbers k e → ⊥) × (reserved k e ≡ true))
-        ⊎ ((s ≡ 140) × (x ≡ b) × (TableOutside numbers k e → ⊥) × (reserved k e ≡ false) × TableAgain numbers k b e)
-        ⊎ ((s ≡ 141) × (isTable k e ≡ false) × (reserved k e ≡ false) × (walked numbers x ≡ leadOf l x → ⊥))
+    pub offence : Is8A k b e s x ⊎ Is8B k b e s x ⊎ Is8C k b e s x ⊎ Is8D k e s x
 
   pub record FirstOffence (s x : ℕ) : Type 0 where
     -- the entry that bears it is reached
