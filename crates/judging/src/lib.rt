@@ -59,16 +59,16 @@ fn by_handler(
 ) -> Judged
     ensures { λ r. ⌜ r ≡ byHandler (handlerSight v (now (powers .entry)) (now (owners .entry)) (held (now (lists .entry)) (v .world)) (held (now (lists .entry)) normal)) a key h ⌝ }
 {
-    let Row::Is(t) = page_calls::row_of(a, h, key) else {
-        return match h {
+    match page_calls::row_of(a, h, key) {
+        Row::Is(t) => page_calls::transfer(t, v, owners, lists, a),
+        Row::NoTransfer => match h {
             0 => architecture_call(a, key),
             1 => board_call(v, powers, owners, lists, a, key),
             2 => standard_call(v, powers, owners, a, key),
             3 => trusted_call(v, key),
             _ => refuse(Reason::Unserved),
-        };
-    };
-    page_calls::transfer(t, v, owners, lists, a)
+        },
+    }
 }
 
 // What a call reads of the caller's eight numbers: its identifier is split here, and nowhere else.

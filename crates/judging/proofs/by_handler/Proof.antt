@@ -11,6 +11,9 @@ row-of-requires c κs = search needs
 enum-known-t : tie.Need-enum-known-t
 enum-known-t c = search needs
 
+transfer-requires : tie.Need-transfer-requires
+transfer-requires c κs = search needs
+
 enum-told : tie.Need-enum-told
 enum-told c = search needs
 
@@ -49,9 +52,6 @@ returns-5 : tie.Need-returns-5
 unfolding byNumber
 returns-5 c = search rows depth 20
 
-transfer-requires : tie.Need-transfer-requires
-transfer-requires c κs = search needs
-
 returns-6 : tie.Need-returns-6
 unfolding byNumber
 returns-6 c = search rows depth 20
@@ -62,6 +62,7 @@ by-handler-spec =
     (tie.spec
     row-of-requires
     enum-known-t
+    transfer-requires
     enum-told
     architecture-call-requires
     board-call-requires
@@ -73,5 +74,4 @@ by-handler-spec =
     returns-3
     returns-4
     returns-5
-    transfer-requires
     returns-6)
