@@ -1,17 +1,23 @@
 -- How the code's branches meet the definitions of Numbers: one law for each outcome.
-use mathlib.Core.Path.{_≡_, refl}
+use mathlib.Core.Path.{_≡_, refl, _∙_}
+use mathlib.Core.Bool.{Bool, true, false}
 use mathlib.Core.List.{List, [], _∷_}
 use Prim.Native.Nat.{ℕ}
+use native.Mathlib.Omega.{arith}
+use lib.ListN.{length, set}
+use Rattle.rules.specs.Sizes.{normal}
 use Rattle.rules.specs.Reasons.{minus}
 use Rattle.rules.specs.declared.Reason.{Reason}
 use Rattle.rules.specs.declared.Reason.the-variants as Reason
 use Rattle.ledger.specs.Ledger.{empty}
-use Rattle.registers.specs.Registers.{zeros}
-use Rattle.cores.specs.Cores.{firstPowers, firstTurns}
+use Rattle.registers.specs.Registers.{saved, shownOf, zeros}
+use Rattle.cores.specs.Power.{isOn}
+use Rattle.cores.specs.Cores.{power, firstPowers, turn, firstTurns}
+use Rattle.cores.specs.declared.Power.{Power}
+use Rattle.cores.specs.declared.Turn.{Turn}
 use Rattle.pages.specs.Owners.{unowned}
 use Rattle.pages.specs.Named.{unnamed}
 use Rattle.mapping.specs.Lists.{unmapped}
-use Rattle.registers.specs.declared.Shown.{Shown}
 use Rattle.mapping.specs.declared.Lead.{Lead}
 use Rattle.mapping.specs.declared.Lead.the-variants as Lead
 use Rattle.judgements.specs.declared.Answer.{Answer}
@@ -20,14 +26,13 @@ use Rattle.calls.specs.Step.{State}
 use Rattle.calls.specs.declared.Made.{Made}
 use Rattle.parsing.specs.Frame.{statusByte}
 use Rattle.parsing.specs.declared.Status.{Status}
-use Rattle.showing.specs.declared.Reply.{Reply}
-use Rattle.showing.specs.declared.Reply.the-variants as Reply
+use Rattle.showing.specs.Showing.{shownOn, shows-on, shows-off}
 use Rattle.calling.specs.Calling.{trying, shownIn}
 use Rattle.calling.specs.declared.Tried.{Tried}
 use Rattle.calling.specs.declared.Tried.the-variants as Tried
 use Rattle.setup.specs.Table.{unset}
 use Rattle.frames.specs.Frames.{machine, first}
-use Rattle.firmware.specs.Numbers.{inByte, refusal, telling, callTold, ledTo}
+use Rattle.firmware.specs.Numbers.{inByte, refusal, toldOf, telling, callTold, ledTo}
 
 -- ---- fresh tables
 pub all-fresh : (s n l o v p t k : List ℕ) → s ≡ unset → n ≡ unnamed → l ≡ empty → o ≡ unowned → v ≡ zeros → p ≡ firstPowers → t ≡ firstTurns → k ≡ unmapped
@@ -55,15 +60,32 @@ refuses-not (Count n) h = refl
 refuses-not Silent h = refl
 refuses-not (No r) h = absurd (h r refl)
 
-module _ (told : List ℕ) (made : Made) (r q : Reply) (is : r ≡ q) where
-  pub tells-nothing : (why : Status) → r ≡ Reply.Told why → told ≡ telling told made q
-  tells-nothing why e = rw (← is, e)
+-- seven numbers, each in its place
+seven : (t : List ℕ) (a b c d e f g : ℕ) → length t ≡ 7 → set (set (set (set (set (set (set t 0 a) 1 b) 2 c) 3 d) 4 e) 5 f) 6 g ≡ (a ∷ b ∷ c ∷ d ∷ e ∷ f ∷ g ∷ [])
+seven [] a b c d e f g h = absurd (omega arith)
+seven (_ ∷ []) a b c d e f g h = absurd (omega arith)
+seven (_ ∷ _ ∷ []) a b c d e f g h = absurd (omega arith)
+seven (_ ∷ _ ∷ _ ∷ []) a b c d e f g h = absurd (omega arith)
+seven (_ ∷ _ ∷ _ ∷ _ ∷ []) a b c d e f g h = absurd (omega arith)
+seven (_ ∷ _ ∷ _ ∷ _ ∷ _ ∷ []) a b c d e f g h = absurd (omega arith)
+seven (_ ∷ _ ∷ _ ∷ _ ∷ _ ∷ _ ∷ []) a b c d e f g h = absurd (omega arith)
+seven (_ ∷ _ ∷ _ ∷ _ ∷ _ ∷ _ ∷ _ ∷ []) a b c d e f g h = refl
+seven (_ ∷ _ ∷ _ ∷ _ ∷ _ ∷ _ ∷ _ ∷ _ ∷ t) a b c d e f g h = absurd (omega arith)
 
-  pub tells : (core world : ℕ) (x : Shown) (n : ℕ) → r ≡ Reply.Called core world x → n ≡ refusal (made .answer)
-      → (world ∷ x .x0 ∷ x .x1 ∷ x .x2 ∷ x .x3 ∷ made .caller ∷ n ∷ []) ≡ telling told made q
-  tells core world x n e f = rw (← is, e, f)
+pub tells : (t v : List ℕ) (made : Made) (core runs world a b c d n : ℕ) → length t ≡ 7
+    → a ≡ saved v core world 0 → b ≡ saved v core world 1 → c ≡ saved v core world 2 → d ≡ saved v core world 3 → n ≡ refusal (made .answer)
+    → set (set (set (set (set (set (set t 0 runs) 1 a) 2 b) 3 c) 4 d) 5 (made .caller)) 6 n ≡ toldOf made runs (shownOf v core world)
+unfolding shownOf
+tells t v made core runs world a b c d n h i j k l m = seven t runs a b c d (made .caller) n h ∙ rw (i, j, k, l, m)
 
-pub ruleset tellings = (tells-nothing, tells)
+module _ (told t′ : List ℕ) (made : Made) (core : ℕ) (v p t : List ℕ) (w : Power) (on : Bool) (is : w ≡ power p core) (said : on ≡ isOn w) where
+  pub tells-on : (u : Turn) → on ≡ true → u ≡ turn t core → t′ ≡ toldOf made (u .world) (shownOf v core (u .world)) → t′ ≡ telling told made (shownOn core v p t)
+  tells-on u e f g = rw (← shows-on core v p t w on is said u (shownOf v core (u .world)) e f refl) g
+
+  pub tells-off : on ≡ false → t′ ≡ toldOf made 255 (shownOf v core normal) → t′ ≡ telling told made (shownOn core v p t)
+  tells-off e g = rw (← shows-off core v p t w on is said (shownOf v core normal) e refl) g
+
+pub ruleset tellings = (tells-on, tells-off)
 
 -- ---- a call
 module _ (s : List ℕ) (w : State) (told : List ℕ) (core : ℕ) (xs s′ : List ℕ) (w′ : State) (t : Tried) (is : ((s′, w′), t) ≡ trying s w core xs) where

@@ -2,7 +2,8 @@
 // a plain pointer; what is an enum here is the paper's number there. include/chiarumbeta.h declares them.
 ghost use mathlib.Core.Path.{_≡_};
 ghost use Rattle.pages.specs.Owners.{owner};
-ghost use Rattle.registers.specs.Registers.{saved as numberSaved};
+ghost use lib.ListN.{length};
+ghost use Rattle.registers.specs.Registers.{saved as numberSaved, shownOf};
 ghost use Rattle.mapping.specs.Lists.{held};
 ghost use Rattle.mapping.specs.Mapping.{leadOf};
 ghost use Rattle.calls.specs.Step.{state, coreTables};
@@ -11,7 +12,7 @@ ghost use Rattle.calling.specs.Calling.{siteOf};
 ghost use Rattle.arriving.specs.Arriving.{arriving};
 ghost use Rattle.frames.specs.Frames.{machine, first};
 ghost use Rattle.showing.specs.Showing.{shownOn};
-ghost use Rattle.firmware.specs.Numbers.{inByte, refusal, telling, callTold, ledTo};
+ghost use Rattle.firmware.specs.Numbers.{inByte, refusal, toldOf, telling, callTold, ledTo};
 use calling::Tried;
 use calls::Made;
 use cores::Powers;
@@ -25,7 +26,6 @@ use pages::Owners;
 use registers::Saved;
 use rules::Reason;
 use setup::Setup;
-use showing::Reply;
 
 // What is told of a call: the world that then runs or 255, x0 to x3, who called, and the refusal.
 pub type Told = [u64; 7];
@@ -114,30 +114,42 @@ fn refusal_of(a: Answer) -> u64
     rules::minus_of(r)
 }
 
-// What is told of an accepted call.
+// That there is room for seven numbers.
+fn see_room(told: &Told) -> u64
+    ensures { λ _. ⌜ length (now (told .entry)) ≡ 7 ⌝ }
+{
+    let s: &[u64] = told;
+    s[0]
+}
+
+// What is told where the numbers of a world are shown. Each is read and written by itself: two that are read at once, of which
+// the call has just written one, keep a processor waiting.
+fn tell_of(told: &mut Told, made: Made, core: u64, runs: u64, world: u64, saved: &Saved)
+    ensures { λ _. ⌜ now (told .exit) ≡ toldOf made runs (shownOf (now (saved .entry)) core world) ⌝ }
+{
+    see_room(told);
+    let answer = made.answer;
+    told[0] = runs;
+    told[1] = registers::number(saved, core, world, 0);
+    told[2] = registers::number(saved, core, world, 1);
+    told[3] = registers::number(saved, core, world, 2);
+    told[4] = registers::number(saved, core, world, 3);
+    told[5] = made.caller;
+    told[6] = refusal_of(answer);
+}
+
+// What is told of an accepted call, by the world that then runs; of a core that went OFF Normal's numbers are shown.
 fn tell(told: &mut Told, made: Made, core: u64, saved: &Saved, powers: &Powers, turns: &Turns)
     ensures { λ _. ⌜ now (told .exit) ≡ telling (now (told .entry)) made (shownOn core (now (saved .entry)) (now (powers .entry)) (now (turns .entry))) ⌝ }
 {
-    let reply = showing::show(core, saved, powers, turns);
-    let Reply::Called {
-        core: _,
-        world,
-        shown,
-    } = reply
-    else {
+    let power = cores::power_of(powers, core);
+    if power.is_on() {
+        let turn = cores::turn_of(turns, core);
+        let world = turn.world;
+        tell_of(told, made, core, world, world, saved);
         return;
-    };
-    let answer = made.answer;
-    let refused = refusal_of(answer);
-    *told = [
-        world,
-        shown.x0,
-        shown.x1,
-        shown.x2,
-        shown.x3,
-        made.caller,
-        refused,
-    ];
+    }
+    tell_of(told, made, core, showing::NO_WORLD, rules::NORMAL, saved);
 }
 
 // A call by the world that runs on a core, with its eight numbers.

@@ -15,7 +15,7 @@ pub enum Reply {
 }
 
 // The world shown for a core that is not ON.
-const NO_WORLD: u64 = 255;
+pub const NO_WORLD: u64 = 255;
 
 // What is shown of a core after its call.
 pub fn show(core: u64, saved: &Saved, powers: &Powers, turns: &Turns) -> Reply
