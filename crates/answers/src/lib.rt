@@ -13,7 +13,7 @@ use rules::minus_of;
 pub fn save_numbers(t: &mut Saved, core: u64, world: u64, x: &[u64; 8])
     ensures { λ _. ⌜ now (t .exit) ≡ saving (now (t .entry)) core world (now (x .entry)) ⌝ }
 {
-    registers::save(t, core, world, x);
+    registers::save_eight(t, core, world, x);
 }
 
 // A refusal as a call of these parts has it written.

@@ -26,8 +26,9 @@ use Rattle.calling.specs.Calling.{siteOf, trying, shownIn, calling}
 pub site-so : (s : List ℕ) (w : Window) (n : ℕ) → w ≡ window s → n ≡ cores s → record { window = w; cores = n } ≡ siteOf s
 site-so s w n e h = rw (e, h)
 
-pub asks-on : (s p : List ℕ) (core : ℕ) (w : Power) (fits : Bool) (v : Verdict) → w ≡ power p core → fits ≡ isOn w → v ≡ coreVerdict s core fits → v ≡ coreVerdict s core (isOn (power p core))
-asks-on s p core w fits v has said is = is ∙ rw (said, has)
+pub asks-on : (s p : List ℕ) (core : ℕ) (w : Power) (on fits : Bool) (v : Verdict) → w ≡ power p core → on ≡ isOn w → on ≡ fits → v ≡ coreVerdict s core fits
+    → v ≡ coreVerdict s core (isOn (power p core))
+asks-on s p core w on fits v has said so is = is ∙ rw (← so, said, has)
 
 -- ---- a call
 module _ (s l o r p t k : List ℕ) (core : ℕ) (xs : List ℕ) (v : Verdict) (is : v ≡ coreVerdict s core (isOn (power p core))) where

@@ -35,12 +35,15 @@ fn site_of(setup: &Setup) -> Site
     }
 }
 
-// 20: whether the frame may come, there is such a core, and it is ON.
+// 20: whether the frame may come, there is such a core, and it is ON. That is asked first, so that all behind it knows of the core.
 fn judge_call(setup: &Setup, core: u64, powers: &Powers) -> Verdict
     ensures { λ r. ⌜ r ≡ coreVerdict (now (setup .entry)) core (isOn (power (now (powers .entry)) core)) ⌝ }
 {
     let power = cores::power_of(powers, core);
-    setup::judge_core(setup, core, power.is_on())
+    if power.is_on() {
+        return setup::judge_core(setup, core, true);
+    }
+    setup::judge_core(setup, core, false)
 }
 
 // Frame 20: a call on a core that is ON. Set-up has then ended.

@@ -51,7 +51,7 @@ fn finish(t: &mut Turns, core: u64)
 fn receive(t: &mut Saved, core: u64, to: u64, x: &[u64; 8])
     ensures { λ _. ⌜ now (t .exit) ≡ saving (now (t .entry)) core to (now (x .entry)) ⌝ }
 {
-    registers::save(t, core, to, x);
+    registers::save_eight(t, core, to, x);
 }
 
 // How many a finish returns to Normal, by the world that finishes.

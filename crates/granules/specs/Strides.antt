@@ -12,7 +12,7 @@ use Rattle.rules.specs.Choice.{pick, picked, passed, either, chosen, both-true,
 use Rattle.tools.specs.Search.{all, all-at, all-if, all-stops}
 use Rattle.marks.specs.Digits.{digit, put, alike, alike-fits, alike-digit, alike-only, alike-is}
 use Rattle.granules.specs.Table.{mark, WholeMarks, mark-in, marked-in, same-marks, number-mark, number-fits, number-whole, number-inside, number-outside}
-use Rattle.granules.specs.Runs.{bears, written, bears-past, written-whole, written-same, written-other}
+use Rattle.granules.specs.Runs.{bears, allBear, written, filled, bears-past, written-whole, written-same, written-other, fill-starts}
 
 -- how many pages are taken at once
 unfoldable pub stride : ℕ → ℕ → ℕ
@@ -139,5 +139,14 @@ module _ (t : List ℕ) (page left m : ℕ) where
 
     pub writes-number : n ≡ 16 → WholeMarks t → set t (page / 16) (m % 16 * 1229782938247303441) ≡ written t page (stride page left) m
     writes-number h w = rw (← e, h, alike-is (m % 16)) (number-written t m page inside w (stride-so page left n e .aligned h))
+
+-- ---- a run of one page is one stride
+module _ (t : List ℕ) (first count m : ℕ) (single : count ≡ 1) where
+  pub one-borne : (r : Bool) → r ≡ all (bears t m) first (stride first 1) → r ≡ allBear t first count m
+  unfolding allBear
+  one-borne r e = e ∙ rw (single, ← stride-short first 1 (omega arith))
+
+  pub one-filled : (t′ : List ℕ) → first + count ≤ mostPages → t′ ≡ written t first (stride first 1) m → t′ ≡ filled t first count m
+  one-filled t′ h e = e ∙ rw (← stride-short first 1 (omega arith), ← single) (sym (fill-starts t first count m h))
 
 pub ruleset parts = (bears-none, bears-number, bears-page, writes-number, writes-page)

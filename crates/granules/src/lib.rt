@@ -72,10 +72,13 @@ fn stride_bears(t: &Granules, page: u64, left: u64, m: u64) -> bool
     marks::read(number, page) == m % SIXTEEN
 }
 
-// Whether each page of the run is one of the table and has the mark.
+// Whether each page of the run is one of the table and has the mark. A single page, as most calls have it, needs no loop.
 pub fn all_bear(t: &Granules, first: u64, count: u64, m: u64) -> bool
     ensures { λ r. ⌜ r ≡ allBear (now (t .entry)) first count m ⌝ }
 {
+    if count == 1 {
+        return stride_bears(t, first, 1, m);
+    }
     let mut page = first;
     let mut unseen = count;
     while 0 < unseen {
@@ -113,6 +116,10 @@ pub fn mark_run(t: &mut Granules, first: u64, count: u64, m: u64)
         return;
     }
     if MOST_PAGES - first < count {
+        return;
+    }
+    if count == 1 {
+        mark_stride(t, first, 1, m);
         return;
     }
     let mut page = first;

@@ -109,12 +109,12 @@ module _ (e kind owner : ℕ) where
   not-meant = unnamed (firstOf e) (lastOf e) (kindOf e) kind owner
 
   module _ (k : kind ≤ lastKind) (o : owner ≤ lastOwner) where
-    pub ends-before : e / 256 % 128 < kind * 64 + owner → false ≡ meant e kind owner
-    ends-before h = sym (not-meant (λ z f l. omega arith))
+    ends : e / 256 % 128 < kind * 64 + owner → false ≡ meant e kind owner
+    ends h = sym (not-meant (λ z f l. omega arith))
 
-    pub starts-before : kind * 64 + owner ≤ e / 256 % 128 → leb (e / 256 % 128 / 64 * 64 + e % 64) (kind * 64 + owner) ≡ meant e kind owner
+    starts : kind * 64 + owner ≤ e / 256 % 128 → leb (e / 256 % 128 / 64 * 64 + e % 64) (kind * 64 + owner) ≡ meant e kind owner
     unfolding meant
-    starts-before h =
+    starts h =
         let pair = kind * 64 + owner in
         let start = kindOf e * 64 + firstOf e in
         either (leb start pair)
@@ -122,6 +122,14 @@ module _ (e kind owner : ℕ) where
         let s : start ≤ pair = leb-true start pair y in
         y ∙ sym (naming (firstOf e) (lastOf e) (kindOf e) kind owner (omega arith) (omega arith) (omega arith)))
         (λ n. n ∙ sym (not-meant (λ z f l. omega (arith, leb-false start pair n))))
+
+    -- an entry in use ends before a pair exactly where it is below the least that ends with the pair
+    module _ (inUse : 32768 ≤ e) (fits : e < 65536) where
+      pub ends-before : e < 32768 + (kind * 64 + owner) * 256 → false ≡ meant e kind owner
+      ends-before h = ends (omega arith)
+
+      pub starts-before : 32768 + (kind * 64 + owner) * 256 ≤ e → leb (e / 256 % 128 / 64 * 64 + e % 64) (kind * 64 + owner) ≡ meant e kind owner
+      starts-before h = starts (omega arith)
 
 pub ruleset meanings = (ends-before, starts-before)
 

@@ -1,6 +1,6 @@
 // The service ledger: the accepted entries, oldest first, and which handler takes the calls of each pair of type and owner.
 ghost use mathlib.Core.Path.{_≡_};
-ghost use Prim.Native.Nat.{_+_, _≤_};
+ghost use Prim.Native.Nat.{_+_, _≤_, _<_};
 ghost use Rattle.tools.specs.Search.{any};
 ghost use Rattle.ledger.specs.Places.{meant};
 ghost use Rattle.ledger.specs.Ledger.{empty, handler, used, taken, recorded, Ranged, entered};
@@ -47,22 +47,22 @@ pub fn fresh() -> Ledger
 
 // The number in two bytes.
 fn wide(x: u16) -> u64
-    ensures { λ r. ⌜ r ≡ x ⌝ }
+    ensures { λ r. ⌜ (r ≡ x) × (r < 65536) ⌝ }
 {
     x as u64
 }
 
-// Whether an entry names a pair: that is not behind the entry's last, and not before its first.
+// Whether an entry names a pair: that is not behind the entry's last, and not before its first. Where it is behind the last, the
+// whole entry is a smaller number than any that ends with the pair.
 fn is_meant(e: u64, kind: u64, owner: u64) -> bool
-    requires { ⌜ kind ≤ 1 ⌝ ∗ ⌜ owner ≤ 63 ⌝ }
+    requires { ⌜ kind ≤ 1 ⌝ ∗ ⌜ owner ≤ 63 ⌝ ∗ ⌜ 32768 ≤ e ⌝ ∗ ⌜ e < 65536 ⌝ }
     ensures { λ r. ⌜ r ≡ meant e kind owner ⌝ }
 {
     let pair = kind * OWNERS + owner;
-    let last = e / LAST % PAIRS;
-    if last < pair {
+    if e < IN_USE + pair * LAST {
         return false;
     }
-    last / OWNERS * OWNERS + e % OWNERS <= pair
+    e / LAST % PAIRS / OWNERS * OWNERS + e % OWNERS <= pair
 }
 
 // The lookup, with numbers as wide as an entry's: the walk ends at the first entry that names the pair, or at a free place.

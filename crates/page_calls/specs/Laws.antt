@@ -6,9 +6,12 @@ use Prim.Native.Nat.{ℕ}
 use lib.Dec.{eqb}
 use borrow.Author.Tests.{eq-eqb, ne-eqb}
 use Rattle.rules.specs.Choice.{pick, by}
-use Rattle.rules.specs.Sizes.{secure, realm}
+use Rattle.rules.specs.Sizes.{secure, normal, realm}
 use Rattle.rules.specs.Tests.{contraries, other-key}
 use Rattle.rules.specs.declared.Reason.{Reason}
+use Rattle.pages.specs.declared.Window.{Window}
+use Rattle.mapping.specs.Lists.{held}
+use Rattle.transfers.specs.Transfer.{transferVerdict}
 use Rattle.transfers.specs.declared.Verdict.{Verdict as Moving}
 use Rattle.transfers.specs.declared.Verdict.the-variants as Moving
 use Rattle.judgements.specs.declared.Answer.the-variants as Answer
@@ -17,6 +20,7 @@ use Rattle.judgements.specs.declared.Judged.{Judged}
 use Rattle.judgements.specs.declared.Row.{Row}
 use Rattle.judgements.specs.declared.Row.the-variants.{Is, NoTransfer}
 use Rattle.judgements.specs.Judge.{denied, granted, oneOf, takers, Listed, rowIn, moving}
+use Rattle.page_calls.specs.declared.Ends.{Ends}
 
 -- ---- the table
 module _ (ls ms : List Listed) (h n key : ℕ) (r : Row) where
@@ -69,9 +73,24 @@ module _ (l : Moving) (count to : ℕ) (r : Judged) where
   unfolding moving
   move-no q e h = rw e h
 
-  pub moved-by : (k : Moving) → k ≡ l → r ≡ moving k count to → r ≡ moving l count to
-  moved-by k same h = rw (← same) h
-
 pub ruleset verdicts = (move-granted, move-no)
 
-pub ruleset moves = (moved-by, contraries)
+-- ---- who gives and who takes
+unfoldable pub endsOf : Bool → ℕ → Ends
+endsOf takes world = pick takes (record { from = normal; to = world }) (record { from = world; to = normal })
+
+pub moved-ends : (takes : Bool) (world : ℕ) (e : Ends) (w : Window) (o l : List ℕ) (x n : ℕ) (k : Moving) (r : Judged)
+    → e ≡ endsOf takes world → k ≡ transferVerdict w o (held l (e .from)) (e .from) x n → r ≡ moving k n (e .to)
+    → r ≡ pick takes (moving (transferVerdict w o (held l normal) normal x n) n world) (moving (transferVerdict w o (held l world) world x n) n normal)
+unfolding endsOf pick
+moved-ends takes world e w o l x n k r f g h =
+    h
+    ∙ rw (g, f)
+    (by
+    (λ (b : Bool). moving (transferVerdict w o (held l (endsOf b world .from)) (endsOf b world .from) x n) n (endsOf b world .to)
+    ≡ pick b (moving (transferVerdict w o (held l normal) normal x n) n world) (moving (transferVerdict w o (held l world) world x n) n normal))
+    takes
+    (λ y. refl)
+    (λ y. refl))
+
+pub ruleset moves = (moved-ends, contraries)

@@ -4,6 +4,7 @@ ghost use Rattle.mapping.specs.Lists.{held};
 ghost use Rattle.rules.specs.Sizes.{normal};
 ghost use Rattle.judgements.specs.Judge.{oneOf, rowOf, mayTransfer, moving, transferring};
 ghost use Rattle.judgements.specs.declared.Row.the-variants.{Is};
+ghost use Rattle.page_calls.specs.Laws.{endsOf};
 use judgements::Answer;
 use judgements::Args;
 use judgements::Caller;
@@ -68,6 +69,27 @@ fn moved(t: Verdict, count: u64, to: u64) -> Judged
     }
 }
 
+// Who gives the pages of a transfer, and who takes them.
+struct Ends {
+    from: u64,
+    to: u64,
+}
+
+fn ends_of(t: Transfer, world: u64) -> Ends
+    ensures { λ r. ⌜ r ≡ endsOf (t .takes) world ⌝ }
+{
+    if t.takes {
+        return Ends {
+            from: rules::NORMAL,
+            to: world,
+        };
+    }
+    Ends {
+        from: world,
+        to: rules::NORMAL,
+    }
+}
+
 // Pages from x1 on, from Normal to the caller, or from the caller to Normal.
 pub fn transfer(t: Transfer, v: Caller, owners: &Owners, lists: &Lists, a: Args) -> Judged
     ensures { λ r. ⌜ r ≡ transferring t v (now (owners .entry)) (held (now (lists .entry)) (v .world)) (held (now (lists .entry)) normal) a ⌝ }
@@ -77,16 +99,6 @@ pub fn transfer(t: Transfer, v: Caller, owners: &Owners, lists: &Lists, a: Args)
     }
     let w = v.window;
     let n = t.count;
-    if t.takes {
-        return moved(
-            transfers::judge(w, owners, lists, rules::NORMAL, a.x1, n),
-            n,
-            v.world,
-        );
-    }
-    moved(
-        transfers::judge(w, owners, lists, v.world, a.x1, n),
-        n,
-        rules::NORMAL,
-    )
+    let e = ends_of(t, v.world);
+    moved(transfers::judge(w, owners, lists, e.from, a.x1, n), n, e.to)
 }

@@ -9,7 +9,7 @@ use native.Mathlib.Numerals.{add-one}
 use native.Mathlib.Nat.{eq-or-lt-of-le}
 use lib.Dec.{ltb, eqb}
 use lib.ListN.{length, getD, set, take, drop, replicate, length-set, length-take, length-replicate, List·getD-eq-default, drop-of-length-le}
-use lib.Seq.{sets, length-sets, getD-set-same, getD-set-other, getD-take, getD-drop, drop-cons}
+use lib.Seq.{sets, length-sets, getD-set-same, getD-set-other, getD-take, getD-drop, drop-cons, ext-getD}
 use borrow.Author.Tests.{lt-ltb, le-ltb, ltb-true, ltb-false, eqb-true, eq-eqb}
 use Rattle.rules.specs.Sizes.{worlds, mostCores}
 use Rattle.rules.specs.Choice.{pick, picked, passed, either, both-true, left-true, right-true, yes-or-no}
@@ -205,6 +205,26 @@ module _ (t₀ : List ℕ) (c w : ℕ) (xs : List ℕ) (a n : ℕ) where
     pub writing-ends : n ≤ i → t ≡ saving t₀ c w xs
     unfolding left
     writing-ends h = sym (k .rest ∙ rw (drop-of-length-le (take each xs) {i = i} (omega arith)))
+
+-- eight numbers, read one by one, are all there are
+all-eight : (x : List ℕ) → length x ≡ 8
+    → (getD x 0 0 ∷ getD x 1 0 ∷ getD x 2 0 ∷ getD x 3 0 ∷ getD x 4 0 ∷ getD x 5 0 ∷ getD x 6 0 ∷ getD x 7 0 ∷ []) ≡ x
+all-eight x e = ext-getD 0 _ x (sym e) (λ i h. at i h)
+  where
+    at : (i : ℕ) → i < 8 → getD (getD x 0 0 ∷ getD x 1 0 ∷ getD x 2 0 ∷ getD x 3 0 ∷ getD x 4 0 ∷ getD x 5 0 ∷ getD x 6 0 ∷ getD x 7 0 ∷ []) i 0 ≡ getD x i 0
+    at zero h = refl
+    at (suc zero) h = refl
+    at (suc (suc zero)) h = refl
+    at (suc (suc (suc zero))) h = refl
+    at (suc (suc (suc (suc zero)))) h = refl
+    at (suc (suc (suc (suc (suc zero))))) h = refl
+    at (suc (suc (suc (suc (suc (suc zero)))))) h = refl
+    at (suc (suc (suc (suc (suc (suc (suc zero))))))) h = refl
+    at (suc (suc (suc (suc (suc (suc (suc (suc i)))))))) h = absurd (omega arith)
+
+pub saving-eight : (t t′ : List ℕ) (c w : ℕ) (x : List ℕ) → length x ≡ 8
+    → t′ ≡ saving t c w (getD x 0 0 ∷ getD x 1 0 ∷ getD x 2 0 ∷ getD x 3 0 ∷ getD x 4 0 ∷ getD x 5 0 ∷ getD x 6 0 ∷ getD x 7 0 ∷ []) → t′ ≡ saving t c w x
+saving-eight t t′ c w x e h = rw (all-eight x e) at h
 
 pub ruleset writing = (writing-starts, writing-goes, writing-ends, saving-nowhere)
 

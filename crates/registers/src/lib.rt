@@ -2,6 +2,7 @@
 // Where there is no such core, world or number, reading gives 0 and writing changes nothing.
 ghost use mathlib.Core.Path.{_≡_};
 ghost use mathlib.Core.List.{[], _∷_};
+ghost use lib.ListN.{length};
 ghost use Rattle.registers.specs.Registers.{startOf, countOf, numberIn, shownIn, zeros, saved, shownOf, saving};
 use rules::MOST_CORES;
 use rules::WORLDS;
@@ -121,6 +122,27 @@ pub fn save(t: &mut Saved, core: u64, world: u64, xs: &[u64])
         t[a + i] = xs[i];
         i += 1;
     }
+}
+
+// That there are eight numbers.
+fn see_eight(x: &[u64; 8]) -> u64
+    ensures { λ _. ⌜ length (now (x .entry)) ≡ 8 ⌝ }
+{
+    let s: &[u64] = x;
+    s[0]
+}
+
+// The eight numbers of a call. All are read before one is written, so that they are copied in pairs.
+pub fn save_eight(t: &mut Saved, core: u64, world: u64, x: &[u64; 8])
+    ensures { λ _. ⌜ now (t .exit) ≡ saving (now (t .entry)) core world (now (x .entry)) ⌝ }
+{
+    see_eight(x);
+    save(
+        t,
+        core,
+        world,
+        &[x[0], x[1], x[2], x[3], x[4], x[5], x[6], x[7]],
+    );
 }
 
 // x0 alone: the answer of a call with one result.

@@ -15,6 +15,9 @@ returns : tie.Need-returns
 unfolding transferring
 returns c = search moves depth 20
 
+ends-of-requires : tie.Need-ends-of-requires
+ends-of-requires c κs = search needs
+
 judge-requires : tie.Need-judge-requires
 judge-requires c κs = search needs
 
@@ -25,16 +28,6 @@ returns-2 : tie.Need-returns-2
 unfolding transferring
 returns-2 c = search moves depth 20
 
-judge-requires-2 : tie.Need-judge-requires-2
-judge-requires-2 c κs = search needs
-
-moved-requires-2 : tie.Need-moved-requires-2
-moved-requires-2 c κs = search needs
-
-returns-3 : tie.Need-returns-3
-unfolding transferring
-returns-3 c = search moves depth 20
-
 pub transfer-spec : {M : Type 1} → statement M
 transfer-spec =
     tie.close
@@ -42,9 +35,7 @@ transfer-spec =
     may-transfer-requires
     refuse-requires
     returns
+    ends-of-requires
     judge-requires
     moved-requires
-    returns-2
-    judge-requires-2
-    moved-requires-2
-    returns-3)
+    returns-2)
