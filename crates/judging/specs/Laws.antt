@@ -5,7 +5,8 @@ use Prim.Native.Nat.{ℕ}
 use lib.ListN.{getD}
 use Rattle.rules.specs.Tests.{contraries}
 use Rattle.rules.specs.declared.Reason.the-variants as Reason
-use Rattle.identifiers.specs.Identifier.{identifierOf, parts, keyOf}
+use Rattle.rules.specs.Choice.{pick}
+use Rattle.identifiers.specs.Identifier.{identifierOf, parts, keyOf, argument}
 use Rattle.identifiers.specs.declared.Identifier.{Identifier}
 use Rattle.identifiers.specs.declared.Parts.{Parts}
 use Rattle.ledger.specs.declared.Lookup.{Lookup}
@@ -47,5 +48,10 @@ requestOf xs = record { parts = calledBy xs; key = keyOf (identifierOf (getD xs 
 pub request-is : (xs : List ℕ) (id : Identifier) (p : Parts) (a : Args) (key : ℕ)
     → id ≡ identifierOf (getD xs 0 0) → p ≡ parts id → a ≡ argsOf p xs → key ≡ keyOf id → record { parts = p; key = key; args = a } ≡ requestOf xs
 request-is xs id p a key i e f g = rw (g, f, e, i)
+
+-- a 64-bit call reads its arguments as they stand
+pub args-wide : (p : Parts) (xs : List ℕ) → p .wide ≡ 1 → record { x1 = getD xs 1 0; x2 = getD xs 2 0; x3 = getD xs 3 0; x4 = getD xs 4 0 } ≡ argsOf p xs
+unfolding argsOf argument pick
+args-wide p xs e = rw e
 
 pub ruleset lookups = (by-nobody, by-somebody, contraries)

@@ -35,10 +35,18 @@ fn may_call(world: u64) -> bool
     }
 }
 
-// The arguments, as a call of these parts reads them.
+// The arguments, as a call of these parts reads them: a 64-bit one as they stand.
 fn read_args(p: Parts, x: &[u64; 8]) -> Args
     ensures { λ r. ⌜ r ≡ argsOf p (now (x .entry)) ⌝ }
 {
+    if p.wide == 1 {
+        return Args {
+            x1: x[1],
+            x2: x[2],
+            x3: x[3],
+            x4: x[4],
+        };
+    }
     Args {
         x1: p.argument(x[1]),
         x2: p.argument(x[2]),

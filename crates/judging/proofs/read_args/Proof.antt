@@ -1,8 +1,24 @@
--- Each argument is what the promise of `argument` says of its number, as `argsOf` lists them.
+-- A 64-bit call reads the numbers as they stand; else each argument is what the promise of `argument` says of its number, as `argsOf` lists them.
 use borrow.Author.Needs.{needs}
 use Rattle.judgements.specs.Judge.{argsOf}
+use Rattle.judging.specs.Laws.{args-wide}
 use Rattle.judging.proofs.read_args.Statement.{statement}
 use Rattle.judging.proofs.read_args.Tie as tie
+
+element-copy-out-t6 : tie.Need-element-copy-out-t6
+element-copy-out-t6 c = search needs
+
+element-copy-out-t9 : tie.Need-element-copy-out-t9
+element-copy-out-t9 c = search needs
+
+element-copy-out-t12 : tie.Need-element-copy-out-t12
+element-copy-out-t12 c = search needs
+
+element-copy-out-t15 : tie.Need-element-copy-out-t15
+element-copy-out-t15 c = search needs
+
+returns : tie.Need-returns
+returns c = search args-wide
 
 element-copy-out-argument : tie.Need-element-copy-out-argument
 element-copy-out-argument c = search needs
@@ -28,15 +44,20 @@ element-copy-out-argument-4 c = search needs
 argument-requires-4 : tie.Need-argument-requires-4
 argument-requires-4 c κs = search needs
 
-returns : tie.Need-returns
+returns-2 : tie.Need-returns-2
 unfolding argsOf
-returns c =
+returns-2 c =
     rw (c .argument4 .ensures, c .before .before .argument3 .ensures, c .before .before .before .before .argument2 .ensures, c .before .before .before .before .before .before .argument .ensures)
 
 pub read-args-spec : {M : Type 1} → statement M
 read-args-spec =
     tie.close
     (tie.spec
+    element-copy-out-t6
+    element-copy-out-t9
+    element-copy-out-t12
+    element-copy-out-t15
+    returns
     element-copy-out-argument
     argument-requires
     element-copy-out-argument-2
@@ -45,4 +66,4 @@ read-args-spec =
     argument-requires-3
     element-copy-out-argument-4
     argument-requires-4
-    returns)
+    returns-2)
