@@ -27,8 +27,11 @@ module _ (p : Parts) (a : Answer) (r r′ : List ℕ) (c w : ℕ) where
   pub writes-nothing : a ≡ Silent → r′ ≡ r → r′ ≡ saving r c w (written p a)
   writes-nothing e h = rw e (h ∙ sym (saving-none r c w))
 
-  pub writes-no : (q : Reason) (n : ℕ) → a ≡ No q → n ≡ negative p (minus q) → r′ ≡ saving r c w (n ∷ []) → r′ ≡ saving r c w (written p a)
-  writes-no q n e f h = rw (e, ← f) h
+  pub writes-no : (q : Reason) → a ≡ No q → r′ ≡ saving r c w (written p (No q)) → r′ ≡ saving r c w (written p a)
+  writes-no q e h = rw e h
+
+pub writes-refusal : (p : Parts) (q : Reason) (r r′ : List ℕ) (c w n : ℕ) → n ≡ negative p (minus q) → r′ ≡ saving r c w (n ∷ []) → r′ ≡ saving r c w (written p (No q))
+writes-refusal p q r r′ c w n f h = rw f at h
 
 pub tells-no : (p : Parts) (a : Answer) (q : Reason) (n : ℕ) → a ≡ No q → n ≡ negative p (minus q) → n ≡ told p a
 tells-no p a q n e f = rw (e, ← f)

@@ -2,6 +2,7 @@
 ghost use mathlib.Core.Path.{_≡_};
 ghost use Rattle.registers.specs.Registers.{saving};
 ghost use Rattle.rules.specs.Reasons.{minus};
+ghost use Rattle.judgements.specs.declared.Answer.the-variants.{No};
 ghost use Rattle.answers.specs.Answers.{negative, bit, written, told};
 use identifiers::Parts;
 use judgements::Answer;
@@ -33,6 +34,13 @@ fn bit_of(is: bool) -> u64
     0
 }
 
+// Writes a refusal.
+pub fn write_refusal(t: &mut Saved, core: u64, world: u64, p: Parts, r: Reason)
+    ensures { λ _. ⌜ now (t .exit) ≡ saving (now (t .entry)) core world (written p (No r)) ⌝ }
+{
+    registers::save_one(t, core, world, negative_of(p, r));
+}
+
 // Writes the results that an answer lists, from x0 on; the others keep the caller's values.
 pub fn write_answer(t: &mut Saved, core: u64, world: u64, p: Parts, a: Answer)
     ensures { λ _. ⌜ now (t .exit) ≡ saving (now (t .entry)) core world (written p a) ⌝ }
@@ -48,7 +56,7 @@ pub fn write_answer(t: &mut Saved, core: u64, world: u64, p: Parts, a: Answer)
         Answer::Leads { phys, attr } => registers::save_three(t, core, world, 0, phys, attr),
         Answer::Count(n) => registers::save_one(t, core, world, n),
         Answer::Silent => {}
-        Answer::No(r) => registers::save_one(t, core, world, negative_of(p, r)),
+        Answer::No(r) => write_refusal(t, core, world, p, r),
     }
 }
 

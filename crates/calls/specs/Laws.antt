@@ -1,6 +1,6 @@
 -- How the code's branches meet the definitions of Step.
-use mathlib.Core.Path.{_≡_, sym, ap, _∙_}
-use mathlib.Core.Bool.{true, false, not}
+use mathlib.Core.Path.{_≡_, refl, sym, ap, _∙_}
+use mathlib.Core.Bool.{Bool, true, false, not}
 use mathlib.Core.List.{List}
 use Prim.Native.Nat.{ℕ}
 use borrow.Author.Tests.{not-true, not-false}
@@ -13,7 +13,10 @@ use Rattle.cores.specs.declared.Turn.{Turn}
 use Rattle.cores.specs.declared.Arriving.{Arriving}
 use Rattle.mapping.specs.Lists.{held}
 use Rattle.rules.specs.Sizes.{normal}
-use Rattle.judgements.specs.Judge.{handlerSight, sighted, judgedBy, judged}
+use Rattle.rules.specs.Tests.{stops}
+use Rattle.rules.specs.declared.Reason.the-variants.{Unserved}
+use Rattle.judgements.specs.Judge.{denied, oneOf, callers, handlerSight, sighted, judgedBy, judged}
+use Rattle.judgements.specs.declared.Answer.the-variants.{No}
 use Rattle.judging.specs.Laws.{requestOf}
 use Rattle.judgements.specs.declared.Judged.{Judged}
 use Rattle.judgements.specs.declared.Request.{Request}
@@ -37,6 +40,21 @@ unfolding called applied judged
 stepped w l o r p t m xs core v k j n q o′ r′ p′ t′ m′ ev en ek ej ew es =
     let eq = answered r n q xs core (v .world) (k .parts) (j .answer) en ew in
     ap (λ (y : Tables). (withTables (state w l o r p t m) y, record { caller = v .world; answer = j .answer })) es ∙ rw (eq, ej, ek, ev)
+
+-- a world that makes no calls is refused, and nothing is done for it
+pub unheard : (w : Site) (l o r p t m xs : List ℕ) (core : ℕ) (v : Caller) (heard : Bool) (k : Request) (n q : List ℕ)
+    → v ≡ callerOn w t core
+    → heard ≡ oneOf (v .world) callers
+    → not heard ≡ true
+    → n ≡ saving r core (v .world) xs
+    → k ≡ requestOf xs
+    → q ≡ saving n core (v .world) (written (k .parts) (No Unserved))
+    → (state w l o q p t m, record { caller = v .world; answer = No Unserved }) ≡ called (state w l o r p t m) core xs
+unfolding judgedBy
+unheard w l o r p t m xs core v heard k n q ev eh er en ek ew =
+    stepped w l o r p t m xs core v k (denied Unserved) n q o q p t m ev en ek (stops denied _ Unserved _ _ (denied Unserved) (rw eh at er) refl) ew refl
+
+pub ruleset steps = (stepped, unheard)
 
 -- ---- an arrival, from what each part ensures
 module _ (r p t : List ℕ) (core : ℕ) (x : Power) (y : Arriving) (was : x ≡ power p core) (is : y ≡ arrivalOf x) where

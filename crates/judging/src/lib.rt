@@ -24,7 +24,7 @@ use standard::standard_call;
 use trusted::trusted_call;
 
 // Root makes no calls.
-fn may_call(world: u64) -> bool
+pub fn may_call(world: u64) -> bool
     ensures { λ r. ⌜ r ≡ oneOf world callers ⌝ }
 {
     match world {

@@ -67,11 +67,8 @@ enum-told-7 c = search needs
 enum-known-a-4 : tie.Need-enum-known-a-4
 enum-known-a-4 c = search needs
 
-negative-of-requires : tie.Need-negative-of-requires
-negative-of-requires c κs = search needs
-
-save-one-requires-9 : tie.Need-save-one-requires-9
-save-one-requires-9 c κs = search needs
+write-refusal-requires : tie.Need-write-refusal-requires
+write-refusal-requires c κs = search needs
 
 returns : tie.Need-returns
 returns c = search answers
@@ -131,8 +128,7 @@ write-answer-spec =
     save-one-requires-8
     enum-told-7
     enum-known-a-4
-    negative-of-requires
-    save-one-requires-9
+    write-refusal-requires
     returns
     returns-2
     returns-3
