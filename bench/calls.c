@@ -45,7 +45,7 @@ static void fail(const char *what)
 // Makes a call on both sides, which have to tell the same, and it has to be granted.
 static void make(const struct call *c)
 {
-    uint64_t told[CHIARUMBETA_TOLD], plain[5];
+    uint64_t told[CHIARUMBETA_TOLD], plain[CHIARUMBETA_TOLD];
     if (chiarumbeta_call(&machine, CORE, c->x, told) != 0 || plain_call(CORE, c->x, plain) != 0)
         fail("a call is no frame");
     if (memcmp(told, plain, sizeof plain) != 0)
@@ -102,7 +102,7 @@ static double ours(const struct kind *k)
 
 static double plain(const struct kind *k)
 {
-    uint64_t told[5];
+    uint64_t told[CHIARUMBETA_TOLD];
     double start = now();
     for (unsigned i = 0; i < k->times; i++)
         for (unsigned j = 0; j < k->calls; j++)

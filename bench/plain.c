@@ -23,7 +23,14 @@ unsigned plain_set_up(const uint8_t *frame)
     }
 }
 
-unsigned plain_call(uint64_t number, const uint64_t x[8], uint64_t told[5])
+// n where x0 is -n, in as many bits as the identifier has a negative answer take.
+static uint64_t refusal(uint64_t identifier, uint64_t x0)
+{
+    int64_t answer = identifier >> 30 & 1 ? (int64_t)x0 : (int32_t)x0;
+    return answer < 0 ? (uint64_t)-answer : 0;
+}
+
+unsigned plain_call(uint64_t number, const uint64_t x[8], uint64_t told[7])
 {
     if (pages == 0)
         return OUT_OF_PLACE;
@@ -32,10 +39,16 @@ unsigned plain_call(uint64_t number, const uint64_t x[8], uint64_t told[5])
     const struct core *core = &core_table[number];
     if (core->power != ON)
         return CLASH;
+    const enum world caller = core->running;
     calls_begun = true;
-    memcpy(saved[number][core->running], x, ARGUMENTS * sizeof *x);
+    memcpy(saved[number][caller], x, ARGUMENTS * sizeof *x);
     call((unsigned)number);
-    told[0] = core->power == ON ? core->running : NO_WORLD;
-    memcpy(told + 1, saved[number][core->running], 4 * sizeof *told);
+    const bool on = core->power == ON;
+    const uint64_t *shown = saved[number][core->running];
+    told[0] = on ? core->running : NO_WORLD;
+    for (int i = 0; i < 4; i++)  // a memcpy reads two at once, and waits where the call has just written one of them
+        told[1 + i] = shown[i];
+    told[5] = caller;
+    told[6] = on && core->running == caller ? refusal(x[0], shown[0]) : 0;
     return ACCEPTED;
 }

@@ -30,6 +30,21 @@ use setup::Setup;
 // What is told of a call: the world that then runs or 255, x0 to x3, who called, and the refusal.
 pub type Told = [u64; 7];
 
+// Where each of them stands.
+const TOLD_WORLD: usize = 0;
+
+const TOLD_X0: usize = 1;
+
+const TOLD_X1: usize = 2;
+
+const TOLD_X2: usize = 3;
+
+const TOLD_X3: usize = 4;
+
+const TOLD_CALLER: usize = 5;
+
+const TOLD_REFUSED: usize = 6;
+
 // Where an address leads: physical address and attributes.
 pub type Leading = [u64; 2];
 
@@ -129,13 +144,13 @@ fn tell_of(told: &mut Told, made: Made, core: u64, runs: u64, world: u64, saved:
 {
     see_room(told);
     let answer = made.answer;
-    told[0] = runs;
-    told[1] = registers::number(saved, core, world, 0);
-    told[2] = registers::number(saved, core, world, 1);
-    told[3] = registers::number(saved, core, world, 2);
-    told[4] = registers::number(saved, core, world, 3);
-    told[5] = made.caller;
-    told[6] = refusal_of(answer);
+    told[TOLD_WORLD] = runs;
+    told[TOLD_X0] = registers::number(saved, core, world, 0);
+    told[TOLD_X1] = registers::number(saved, core, world, 1);
+    told[TOLD_X2] = registers::number(saved, core, world, 2);
+    told[TOLD_X3] = registers::number(saved, core, world, 3);
+    told[TOLD_CALLER] = made.caller;
+    told[TOLD_REFUSED] = refusal_of(answer);
 }
 
 // What is told of an accepted call, by the world that then runs; of a core that went OFF Normal's numbers are shown.
