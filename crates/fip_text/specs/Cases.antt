@@ -12,7 +12,7 @@ use Rattle.fip_entries.specs.Numbers.{two, four, eight}
 use Rattle.fip_entries.specs.Entries.{offset, size, flags}
 use Rattle.fip_identifiers.specs.Identifiers.{run, idText}
 use Rattle.fip_text.specs.Names.{names, isText, nameAmong, nameText}
-use Rattle.fip_text.specs.Decimal.{inDecimal}
+use Rattle.writing.specs.Decimal.{inDecimal}
 use Rattle.fip_text.specs.Line.{numberText, numbersText, lineText, linesText, listed, listText}
 
 -- each identifier that is known has its own name

@@ -12,8 +12,8 @@ use Rattle.tools.specs.Laid.{laid, then, laid-append, length-laid}
 use Rattle.fip_entries.specs.Entries.{entry, offset, size, flags}
 use Rattle.fip_identifiers.specs.Identifiers.{idText, length-id}
 use Rattle.fip_text.specs.Names.{nameText}
-use Rattle.fip_text.specs.Decimal.{decimalText, decimal-is}
-use Rattle.fip_text.specs.Pieces.{Stands, written, stands-then}
+use Rattle.writing.specs.Decimal.{decimalText, decimal-is}
+use Rattle.writing.specs.Pieces.{Stands, written, stands-then}
 
 -- a space and a number
 unfoldable pub numberText : ℕ → List ℕ

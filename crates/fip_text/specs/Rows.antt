@@ -15,7 +15,7 @@ use Rattle.tools.specs.Laid.{laid}
 use Rattle.hex.specs.Signs.{signs}
 use Rattle.fip_identifiers.specs.Identifiers.{agree}
 use Rattle.fip_text.specs.Names.{names, isText, nameAmong, nameText}
-use Rattle.fip_text.specs.Pieces.{Stands}
+use Rattle.writing.specs.Pieces.{Stands}
 
 -- an identifier, a space and its name, filled up to 88 bytes with dots
 unfoldable pub filled : String × String → List ℕ

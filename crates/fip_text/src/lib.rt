@@ -6,7 +6,7 @@ ghost use mathlib.Core.Path.{_≡_};
 ghost use Prim.Native.Nat.{_+_, _*_, _≤_};
 ghost use lib.ListN.{length};
 ghost use Rattle.io.specs.Counts.{Counts};
-ghost use Rattle.fip_text.specs.Pieces.{Stands, written};
+ghost use Rattle.writing.specs.Pieces.{Stands, written};
 ghost use Rattle.fip_text.specs.Line.{numberText, numbersText, lineText, linesText, listed, listText};
 
 // The most bytes of a list: a line has at most 152, an identifier, three numbers, a name and a newline.

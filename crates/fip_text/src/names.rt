@@ -4,7 +4,7 @@ ghost use Prim.Native.Nat.{_+_, _≤_, _<_};
 ghost use lib.ListN.{length};
 ghost use Rattle.fip_text.specs.Names.{nameText};
 ghost use Rattle.fip_text.specs.Rows.{row, isRow, rowOf, endOf};
-ghost use Rattle.fip_text.specs.Pieces.{Stands};
+ghost use Rattle.writing.specs.Pieces.{Stands};
 use crate::pieces;
 
 // A row's size, and how many rows there are.

@@ -1,7 +1,7 @@
 -- `pieces::put_text` meets its promise, since each pass lays one byte more behind those that stand there.
 use Prim.Native.Nat.{_-_}
 use lib.ListN.{length}
-use Rattle.fip_text.specs.Pieces.{Copied, copying}
+use Rattle.writing.specs.Pieces.{Copied, copying}
 use borrow.Author.Needs.{needs}
 use Rattle.fip_text.proofs.pieces.put_text.Statement.{statement}
 use Rattle.fip_text.proofs.pieces.put_text.Tie as tie

@@ -5,9 +5,10 @@ use Prim.Native.Nat.{ℕ, zero, suc, _+_, _-_, _/_, _%_, _^_, _≤_, _<_}
 use native.Mathlib.Nat.{pow-suc, one-le-pow}
 use native.Mathlib.Omega.{arith}
 use lib.Dec.{ltb}
+use lib.ListN.{length, length-append}
 use borrow.Author.Tests.{lt-ltb, le-ltb}
 use Rattle.io.specs.Digits.{glyph, digits, Fewest}
-use Rattle.rules.specs.Choice.{pick, picked, passed}
+use Rattle.rules.specs.Choice.{pick, picked, passed, chosen}
 
 -- a number of at most so many digits
 unfoldable pub inDecimal : ℕ → ℕ → List ℕ
@@ -43,3 +44,14 @@ decimal-is (suc m) (suc (suc r)) x h f =
     let above : 10 ^ r ≤ x / 10 = omega arith in
     passed _ _ _ _ (le-ltb x 10 u)
     (rw (glyph-low (x % 10) v, decimal-is m (suc r) (x / 10) (omega arith) (omega arith, below, λ z. rw w′ above)))
+
+-- ---- no number has more digits than that
+decimal-few : (m x : ℕ) → length (inDecimal m x) ≤ m
+unfolding inDecimal
+decimal-few zero x = omega arith
+decimal-few (suc m) x =
+    chosen (λ (l : List ℕ). length l ≤ suc m) (ltb x 10) _ _ (λ y. omega arith)
+    (λ n. omega (arith, length-append (inDecimal m (x / 10)) ((48 + x % 10) ∷ []), decimal-few m (x / 10)))
+
+pub decimal-short : (x : ℕ) → length (decimalText x) ≤ 20
+decimal-short x = decimal-few 20 x

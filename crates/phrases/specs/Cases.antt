@@ -1,0 +1,21 @@
+-- Sentences and their text, worked out from the definitions: columns on either side of what stands before them, short and long numbers, and a sentence that is full.
+use mathlib.Core.Path.{_≡_, refl}
+use mathlib.Core.List.{_++_}
+use Prim.Native.Nat.{ℕ}
+use Rattle.rules.specs.Choice.{pick}
+use Rattle.hex.specs.Hex.{inHex, signOf}
+use Rattle.hex.specs.Signs.{signs}
+use Rattle.writing.specs.Decimal.{inDecimal}
+use Rattle.writing.specs.Put.{row, blanks}
+use Rattle.words.specs.Words.{words, wordText}
+use Rattle.words.specs.Words as w
+use Rattle.phrases.specs.Sentence.{pieceOf, blank, _▹_}
+use Rattle.phrases.specs.Text.{indent, rightText, hexText, gapText, extended, upto, textOf, lineText}
+use Rattle.phrases.specs.declared.Piece.the-variants.{Word, Number, Right, Hex, Column}
+
+pub lines :
+    lineText (blank ▹ Right 7 ▹ Column 6 ▹ Word w.take ▹ Number 12 ▹ Word w.pages ▹ Word w.from ▹ Hex 0x80003000 ▹ Column 40 ▹ Word w.granted)
+    ++ lineText (blank ▹ Right 1234567 ▹ Column 6 ▹ Hex 0xffffffffffff0000 ▹ Word 65535 ▹ Number 0)
+    ≡ signs "   7  take 12 pages from 80003000       granted\n1234567 ffffffffffff00000\n"
+unfolding lineText textOf upto extended pieceOf _▹_ rightText indent hexText gapText blanks row wordText words inDecimal inHex signOf pick
+lines = refl
