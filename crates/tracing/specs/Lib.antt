@@ -1,0 +1,2 @@
+pub mod Traced
+pub mod Laws
