@@ -33,7 +33,7 @@ use Rattle.guarantees.specs.Fit.{Fit, fit-next}
 
 -- ---- one line
 -- what is done for a granted transfer
-moves-deed : {m : Machine} → Fit m → {e : Event} {page to : ℕ} (t : Transfers m e page to) → deedIn (stateOf m) (t .core) (e .1) ≡ Move (t .lowest) (t .count) to
+pub moves-deed : {m : Machine} → Fit m → {e : Event} {page to : ℕ} (t : Transfers m e page to) → deedIn (stateOf m) (t .core) (e .1) ≡ Move (t .lowest) (t .count) to
 moves-deed {m} fit {e} {to = to} t =
     let g = transfer-moves m fit e (t .core) (t .is-call) (t .accepted) (t .start) (t .count) to (t .asks) (t .granted) in
     let k : Page (g .first) ≡ Page (t .lowest) = sym (g .lies) ∙ t .lies in
@@ -41,7 +41,7 @@ moves-deed {m} fit {e} {to = to} t =
     rw (← f) (g .moves)
 
 -- either of the two
-data Gives (m : Machine) (e : Event) (page to : ℕ) : Type 0 where
+pub data Gives (m : Machine) (e : Event) (page to : ℕ) : Type 0 where
   moves : Transfers m e page to → Gives m e page to
   names : Names m e page to → Gives m e page to
 
@@ -57,7 +57,7 @@ gives-one fit (names a) (moves b) = omega (arith, ap byte (sym (a .is-name) ∙ 
 gives-one fit (names a) (names b) = let c = sym (a .is-name) ∙ b .is-name in cc
 
 -- what a line makes of a page's owner
-data Outcome (m : Machine) (e : Event) (page : ℕ) (o : Machine) : Type 0 where
+pub data Outcome (m : Machine) (e : Event) (page : ℕ) (o : Machine) : Type 0 where
   gave : (to : ℕ) → Gives m e page to → owner (o .owners) page ≡ to → Outcome m e page o
   kept : ((to : ℕ) → Gives m e page to → ⊥) → owner (o .owners) page ≡ owner (m .owners) page → Outcome m e page o
 
@@ -71,7 +71,7 @@ other-kind m e page {g} is c n o same = kept none same
     none to (names t) = n (ap byte (sym is ∙ t .is-name))
 
 -- a page is one of a run, or not
-inside-or-not : {P : Type 0} (lowest count page : ℕ) → (lowest ≤ page → page < lowest + count → P) → ((lowest ≤ page → page < lowest + count → ⊥) → P) → P
+pub inside-or-not : {P : Type 0} (lowest count page : ℕ) → (lowest ≤ page → page < lowest + count → P) → ((lowest ≤ page → page < lowest + count → ⊥) → P) → P
 inside-or-not lowest count page y n =
     either (leb lowest page)
     (λ a. either (ltb page (lowest + count)) (λ b. y (leb-true _ _ a) (ltb-true _ _ b)) (λ b. n (λ h l. omega (arith, ltb-false page (lowest + count) b))))
@@ -146,7 +146,7 @@ module _ (m : Machine) (fit : Fit m) (e : Event) (page : ℕ) where
   site-keeps pages a = rw (fit .idle a) (unowned-given 0 pages page ∙ sym (unowned-owner page))
 
   -- any line
-  outcome : Outcome m e page (next m e)
+  pub outcome : Outcome m e page (next m e)
   unfolding performed
   outcome =
       framed-by m (e .1) (λ (g : Frame) (o : Machine × Reply). e .0 ≡ g → framed m (e .0) (e .1) ≡ o → Outcome m e page (o .0))
@@ -183,7 +183,7 @@ module _ (m : Machine) (fit : Fit m) (e : Event) (page : ℕ) where
 -- ---- set-up comes before the first call, and names a page once
 module _ (m : Machine) (e : Event) (page : ℕ) where
   -- a granted transfer is a call, and so set-up has ended after it
-  transfer-ends : (to : ℕ) → Transfers m e page to → ended (next m e .setup) ≡ true
+  pub transfer-ends : (to : ℕ) → Transfers m e page to → ended (next m e .setup) ≡ true
   transfer-ends to t = by-reply (reply m e) refl
     where
       by-reply : (r : Reply) → reply m e ≡ r → ended (next m e .setup) ≡ true
@@ -204,12 +204,12 @@ module _ (m : Machine) (e : Event) (page : ℕ) where
       (λ core a b c. k) (λ core a b c. k) (e .0)
 
   -- what an accepted naming met, and what it leaves
-  record Timely (to : ℕ) (o : Machine) : Type 0 where
-    in-time : ended (m .setup) ≡ false
-    free : isNamed (m .named) page ≡ false
-    marked : isNamed (o .named) page ≡ true
+  pub record Timely (to : ℕ) (o : Machine) : Type 0 where
+    pub in-time : ended (m .setup) ≡ false
+    pub free : isNamed (m .named) page ≡ false
+    pub marked : isNamed (o .named) page ≡ true
 
-  naming-is : Fit m → (to : ℕ) → Names m e page to → Timely to (next m e)
+  pub naming-is : Fit m → (to : ℕ) → Names m e page to → Timely to (next m e)
   unfolding performed
   naming-is fit to t =
       framed-by m (e .1) (λ (g : Frame) (o : Machine × Reply). e .0 ≡ g → framed m (e .0) (e .1) ≡ o → Timely to (o .0))
@@ -238,25 +238,25 @@ module _ (m : Machine) (e : Event) (page : ℕ) where
 
 module _ (page : ℕ) where
   -- once set-up has ended it has ended for good
-  ended-stays : (run : Events) (m : Machine) → ended (m .setup) ≡ true → ended (ran m run .setup) ≡ true
+  pub ended-stays : (run : Events) (m : Machine) → ended (m .setup) ≡ true → ended (ran m run .setup) ≡ true
   ended-stays run m k = always (λ (q : Machine). ended (q .setup) ≡ true) (λ q e h. settled q (e .0) (e .1) h .ended) m run k
 
   -- then no page is named
-  ended-unnamed : (run : Events) (m : Machine) → Fit m → ended (m .setup) ≡ true → Unnamed m run page
+  pub ended-unnamed : (run : Events) (m : Machine) → Fit m → ended (m .setup) ≡ true → Unnamed m run page
   unfolding Unnamed
   ended-unnamed [] m fit k = tt
   ended-unnamed (e ∷ rest) m fit k =
       (λ to t. yes-or-no _ k (naming-is m e page fit to t .in-time), ended-unnamed rest (next m e) (fit-next m e fit) (settled m (e .0) (e .1) k .ended))
 
   -- nor is one that was named before
-  marked-unnamed : (run : Events) (m : Machine) → Fit m → isNamed (m .named) page ≡ true → Unnamed m run page
+  pub marked-unnamed : (run : Events) (m : Machine) → Fit m → isNamed (m .named) page ≡ true → Unnamed m run page
   unfolding Unnamed
   marked-unnamed [] m fit k = tt
   marked-unnamed (e ∷ rest) m fit k =
       (λ to t. yes-or-no _ k (naming-is m e page fit to t .free), marked-unnamed rest (next m e) (fit-next m e fit) (named-stays m e page fit k))
 
   -- what comes after a line of a run
-  unmoved-later : (before : Events) (m : Machine) (e : Event) (later : Events) → Unmoved m (before ++ e ∷ later) page → Unmoved (next (ran m before) e) later page
+  pub unmoved-later : (before : Events) (m : Machine) (e : Event) (later : Events) → Unmoved m (before ++ e ∷ later) page → Unmoved (next (ran m before) e) later page
   unfolding Unmoved ran
   unmoved-later [] m e later u = u .1
   unmoved-later (b ∷ before) m e later u = unmoved-later before (next m b) e later (u .1)
