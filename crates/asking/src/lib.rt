@@ -1,0 +1,250 @@
+// What a call asks, in words: a row of one table for each call, and the same sentence for every row.
+ghost use mathlib.Core.Path.{_≡_};
+ghost use Prim.Native.Nat.{_<_};
+ghost use lib.ListN.{getD};
+ghost use Rattle.asking.specs.Names.{namedFrom, named, counted};
+ghost use Rattle.asking.specs.Forms.{keyAt, rowAt, form, register, valued, slot, slots, asked};
+use judgements::Args;
+use judgements::names;
+use phrases::Piece;
+use phrases::Sentence;
+use words::names as w;
+use words::names::ASK_CALLS;
+use words::names::ASK_KNOWN;
+use words::names::ASK_OWNER;
+use words::names::ASK_POWER;
+use words::names::ASK_POWERS;
+use words::names::ASK_STATE;
+use words::names::ASK_WHERE;
+use words::names::AT;
+use words::names::BLANK;
+use words::names::COMMA;
+use words::names::CONTEXT;
+use words::names::COUNT;
+use words::names::FINISH;
+use words::names::FROM;
+use words::names::GIVE;
+use words::names::GIVE_PAGE;
+use words::names::LEVEL;
+use words::names::MAP;
+use words::names::OTHER;
+use words::names::START;
+use words::names::TAKE;
+use words::names::TAKE_PAGE;
+use words::names::TURN_OFF;
+use words::names::UNMAP;
+
+// What numbers have names for.
+pub enum Known {
+    World,
+    Handler,
+    Attributes,
+    Kind,
+}
+
+// How an argument is told: not at all, by its word alone, or behind its word in decimal digits, in hexadecimal digits, as so
+// many pages, as so many bytes, or as attributes.
+const NONE: u64 = 0;
+
+const ALONE: u64 = 1;
+
+const DECIMAL: u64 = 2;
+
+const HEX: u64 = 3;
+
+const AS_PAGES: u64 = 4;
+
+const AS_BYTES: u64 = 5;
+
+const AS_ATTRS: u64 = 6;
+
+// How many rows there are before that of all other calls.
+const ROWS: usize = 20;
+
+// The call of each row.
+const KEYS: [u64; ROWS + 1] = [
+    names::VERSION as u64,
+    names::FEATURES as u64,
+    names::POWER_VERSION as u64,
+    names::CORE_OFF as u64,
+    names::CORE_START as u64,
+    names::CORE_START_WIDE as u64,
+    names::CORE_STATE as u64,
+    names::CORE_STATE_WIDE as u64,
+    names::POWER_FEATURES as u64,
+    names::GRANULE_TO_REALM as u64,
+    names::GRANULE_TO_NORMAL as u64,
+    names::TAKE_PAGES as u64,
+    names::GIVE_PAGES as u64,
+    names::OWNS_PAGE as u64,
+    names::MAP_PAGES as u64,
+    names::UNMAP_PAGES as u64,
+    names::WHERE_LEADS as u64,
+    names::COUNT_ON as u64,
+    names::REALM_FINISH as u64,
+    names::SECURE_FINISH as u64,
+    0,
+];
+
+// For each of up to four arguments its word, its register, and how it is told. Register 0 holds the key.
+const FORMS: [[u64; 12]; ROWS + 1] = [
+    [ASK_CALLS, 0, ALONE, 0, 0, 0, 0, 0, 0, 0, 0, 0],
+    [ASK_KNOWN, 1, HEX, 0, 0, 0, 0, 0, 0, 0, 0, 0],
+    [ASK_POWER, 0, ALONE, 0, 0, 0, 0, 0, 0, 0, 0, 0],
+    [TURN_OFF, 0, ALONE, 0, 0, 0, 0, 0, 0, 0, 0, 0],
+    [START, 1, DECIMAL, AT, 2, HEX, CONTEXT, 3, HEX, 0, 0, 0],
+    [START, 1, DECIMAL, AT, 2, HEX, CONTEXT, 3, HEX, 0, 0, 0],
+    [ASK_STATE, 1, DECIMAL, LEVEL, 2, DECIMAL, 0, 0, 0, 0, 0, 0],
+    [ASK_STATE, 1, DECIMAL, LEVEL, 2, DECIMAL, 0, 0, 0, 0, 0, 0],
+    [ASK_POWERS, 1, HEX, 0, 0, 0, 0, 0, 0, 0, 0, 0],
+    [TAKE_PAGE, 1, HEX, 0, 0, 0, 0, 0, 0, 0, 0, 0],
+    [GIVE_PAGE, 1, HEX, 0, 0, 0, 0, 0, 0, 0, 0, 0],
+    [TAKE, 2, AS_PAGES, FROM, 1, HEX, 0, 0, 0, 0, 0, 0],
+    [GIVE, 2, AS_PAGES, FROM, 1, HEX, 0, 0, 0, 0, 0, 0],
+    [ASK_OWNER, 1, HEX, 0, 0, 0, 0, 0, 0, 0, 0, 0],
+    [
+        MAP,
+        1,
+        HEX,
+        AT,
+        2,
+        HEX,
+        COMMA,
+        3,
+        AS_BYTES,
+        COMMA,
+        4,
+        AS_ATTRS,
+    ],
+    [UNMAP, 1, HEX, COMMA, 2, AS_BYTES, 0, 0, 0, 0, 0, 0],
+    [ASK_WHERE, 1, HEX, 0, 0, 0, 0, 0, 0, 0, 0, 0],
+    [COUNT, 0, ALONE, 0, 0, 0, 0, 0, 0, 0, 0, 0],
+    [FINISH, 0, ALONE, 0, 0, 0, 0, 0, 0, 0, 0, 0],
+    [FINISH, 0, ALONE, 0, 0, 0, 0, 0, 0, 0, 0, 0],
+    [OTHER, 0, HEX, CONTEXT, 1, HEX, BLANK, 2, HEX, BLANK, 3, HEX],
+];
+
+// A number by its name, where it is one of the first `count`, and else behind the word for such numbers.
+fn name_from(s: Sentence, first: u64, count: u64, other: u64, x: u64) -> Sentence
+    requires { ⌜ (first < 256) × (count < 256) ⌝ }
+    ensures { λ r. ⌜ r ≡ namedFrom s first count other x ⌝ }
+{
+    if x < count {
+        return s.with(Piece::Word(first + x));
+    }
+    s.with(Piece::Word(other)).with(Piece::Number(x))
+}
+
+// A number by its name.
+pub fn name(s: Sentence, k: Known, x: u64) -> Sentence
+    ensures { λ r. ⌜ r ≡ named s k x ⌝ }
+{
+    match k {
+        Known::World => name_from(s, w::ROOT, 4, w::NUMBER, x),
+        Known::Handler => name_from(s, w::ARCHITECTURE, 4, w::HANDLER, x),
+        Known::Attributes => name_from(s, w::READ_ONLY, 3, w::ATTRIBUTES, x),
+        Known::Kind => name_from(s, w::YIELDING, 2, w::KIND, x),
+    }
+}
+
+// So many of something.
+pub fn count(s: Sentence, x: u64, one: u64, many: u64) -> Sentence
+    ensures { λ r. ⌜ r ≡ counted s x one many ⌝ }
+{
+    let t = s.with(Piece::Number(x));
+    if x == 1 {
+        return t.with(Piece::Word(one));
+    }
+    t.with(Piece::Word(many))
+}
+
+// The call of row k.
+fn key_at(k: usize) -> u64
+    requires { ⌜ k < 21 ⌝ }
+    ensures { λ r. ⌜ r ≡ keyAt k ⌝ }
+{
+    KEYS[k]
+}
+
+// Row k of the table.
+fn row_at(k: usize) -> [u64; 12]
+    requires { ⌜ k < 21 ⌝ }
+    ensures { λ r. ⌜ r ≡ rowAt k ⌝ }
+{
+    FORMS[k]
+}
+
+// The row of a key, or that of all other calls.
+fn form(key: u64) -> [u64; 12]
+    ensures { λ r. ⌜ r ≡ form key ⌝ }
+{
+    let mut k: usize = 0;
+    let mut unseen = ROWS;
+    while 0 < unseen {
+        if key_at(k) == key {
+            return row_at(k);
+        }
+        k += 1;
+        unseen -= 1;
+    }
+    row_at(k)
+}
+
+// What stands in a register.
+fn register(i: u64, key: u64, a: Args) -> u64
+    ensures { λ r. ⌜ r ≡ register i key a ⌝ }
+{
+    match i {
+        0 => key,
+        1 => a.x1,
+        2 => a.x2,
+        3 => a.x3,
+        _ => a.x4,
+    }
+}
+
+// An argument as its row has it told.
+fn value(s: Sentence, how: u64, x: u64) -> Sentence
+    ensures { λ r. ⌜ r ≡ valued s how x ⌝ }
+{
+    match how {
+        ALONE => s,
+        DECIMAL => s.with(Piece::Number(x)),
+        HEX => s.with(Piece::Hex(x)),
+        AS_PAGES => count(s, x, w::PAGE, w::PAGES),
+        AS_BYTES => s.with(Piece::Number(x)).with(Piece::Word(w::BYTES)),
+        _ => name(s, Known::Attributes, x),
+    }
+}
+
+// One argument, behind its word.
+fn argument(s: Sentence, word: u64, i: u64, how: u64, key: u64, a: Args) -> Sentence
+    ensures { λ r. ⌜ r ≡ slot s word i how key a ⌝ }
+{
+    if how == NONE {
+        return s;
+    }
+    let x = register(i, key, a);
+    value(s.with(Piece::Word(word)), how, x)
+}
+
+// All arguments of a row.
+fn arguments(s: Sentence, row: [u64; 12], key: u64, a: Args) -> Sentence
+    ensures { λ r. ⌜ r ≡ slots s row key a ⌝ }
+{
+    let s1 = argument(s, row[0], row[1], row[2], key, a);
+    let s2 = argument(s1, row[3], row[4], row[5], key, a);
+    let s3 = argument(s2, row[6], row[7], row[8], key, a);
+    argument(s3, row[9], row[10], row[11], key, a)
+}
+
+// What a call with these eight numbers asks.
+pub fn ask(s: Sentence, x: &[u64; 8]) -> Sentence
+    ensures { λ r. ⌜ r ≡ asked s (now (x .entry)) ⌝ }
+{
+    let q = judging::read_call(x);
+    let key = q.key as u64;
+    let row = form(key);
+    let args = q.args;
+    arguments(s, row, key, args)
+}

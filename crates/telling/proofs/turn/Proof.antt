@@ -1,0 +1,23 @@
+-- `turn` meets its promise, since its branches are those of the definition.
+use Rattle.telling.specs.Came.{answers}
+use borrow.Author.Needs.{needs}
+use Rattle.telling.proofs.turn.Statement.{statement}
+use Rattle.telling.proofs.turn.Tie as tie
+
+with-requires : tie.Need-with-requires
+with-requires c κs = search needs
+
+returns : tie.Need-returns
+returns c = search (answers, needs)
+
+name-requires : tie.Need-name-requires
+name-requires c κs = search needs
+
+with-requires-2 : tie.Need-with-requires-2
+with-requires-2 c κs = search needs
+
+returns-2 : tie.Need-returns-2
+returns-2 c = search (answers, needs)
+
+pub turn-spec : {M : Type 1} → statement M
+turn-spec = tie.close (tie.spec with-requires returns name-requires with-requires-2 returns-2)

@@ -1,0 +1,3 @@
+pub mod Came
+pub mod Telling
+pub mod Cases

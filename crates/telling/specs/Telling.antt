@@ -1,0 +1,110 @@
+-- The sentence of a line: its number, who speaks on which core, what is asked, and what came of it.
+use mathlib.Core.Path.{_≡_, refl}
+use mathlib.Core.List.{List}
+use Prim.Native.Nat.{ℕ}
+use Rattle.parsing.specs.declared.Status.{Status}
+use Rattle.parsing.specs.declared.Status.the-variants.{Accepted, NoHex, Unknown, Misplaced, OutOfRange, Clash}
+use Rattle.parsing.specs.declared.Frame.{Frame}
+use Rattle.parsing.specs.declared.Frame.the-variants as Frame
+use Rattle.outcomes.specs.declared.Came.{Came}
+use Rattle.outcomes.specs.declared.Came.the-variants.{Told, Called}
+use Rattle.calls.specs.declared.Made.{Made}
+use Rattle.words.specs.Words as w
+use Rattle.phrases.specs.Sentence.{blank, _▹_}
+use Rattle.phrases.specs.declared.Piece.the-variants.{Word, Number, Right, Hex, Column}
+use Rattle.phrases.specs.declared.Sentence.{Sentence}
+use Rattle.asking.specs.Names.{named, counted}
+use Rattle.asking.specs.Forms.{asked}
+use Rattle.asking.specs.declared.Known.the-variants.{World, Handler, Kind}
+use Rattle.telling.specs.Came.{cameSaid}
+
+-- the number of the line
+abbrev pub opening : ℕ → Sentence
+opening n = blank ▹ Right n ▹ Column 5
+
+-- ---- set-up
+abbrev pub setupLine : ℕ → Sentence
+setupLine n = opening n ▹ Word w.setup ▹ Column 20
+
+-- the window and the cores
+abbrev pub siteAsked : ℕ → ℕ → ℕ → ℕ → Sentence
+siteAsked n base pages cores = counted (counted (setupLine n ▹ Word w.window) pages w.page w.pages ▹ Word w.at ▹ Hex base ▹ Word w.comma) cores w.oneCore w.cores
+
+-- who answers which calls
+abbrev pub entryAsked : ℕ → ℕ → ℕ → ℕ → ℕ → Sentence
+entryAsked n first last kind handler = named (named (setupLine n) Kind kind ▹ Word w.calls ▹ Number first ▹ Word w.upTo ▹ Number last ▹ Word w.goTo) Handler handler
+
+-- whose pages
+abbrev pub nameAsked : ℕ → ℕ → ℕ → ℕ → Sentence
+nameAsked n first count owner = named (counted (setupLine n) count w.page w.pages ▹ Word w.fromPage ▹ Number first ▹ Word w.owner) World owner
+
+-- ---- a core
+abbrev pub onCore : ℕ → ℕ → Sentence
+onCore n core = opening n ▹ Word w.core ▹ Number core
+
+-- who calls: a world, where the call was accepted
+abbrev pub speaker : ℕ → ℕ → Came → Sentence
+speaker n core (Told why) = onCore n core ▹ Column 20
+speaker n core (Called made) = named (onCore n core ▹ Column 12) World (made .caller) ▹ Word w.colon ▹ Column 20
+
+abbrev pub arrivalSaid : ℕ → ℕ → Sentence
+arrivalSaid n core = onCore n core ▹ Column 20 ▹ Word w.arrives
+
+-- ---- no frame: what the line is
+abbrev pub lineOf : Status → ℕ
+lineOf Accepted = w.noKind
+lineOf NoHex = w.noPairs
+lineOf Unknown = w.noKind
+lineOf Misplaced = w.noKind
+lineOf OutOfRange = w.noKind
+lineOf Clash = w.noKind
+
+abbrev pub noFrame : ℕ → Status → Sentence
+noFrame n why = opening n ▹ Word w.noFrame ▹ Column 20 ▹ Word (lineOf why)
+
+-- ---- any line
+unfoldable pub sentenceOf : ℕ → Frame → List ℕ → Came → ℕ → Sentence
+sentenceOf n (Frame.Site base pages cores) xs came now = cameSaid (siteAsked n base pages cores) w.accepted w.outOfRange w.outOfRange came now
+sentenceOf n (Frame.Entry first last kind handler) xs came now = cameSaid (entryAsked n first last kind handler) w.accepted w.outOfRange w.givenBefore came now
+sentenceOf n (Frame.Name first count owner) xs came now = cameSaid (nameAsked n first count owner) w.accepted w.outOfRange w.namedBefore came now
+sentenceOf n (Frame.Call core) xs came now = cameSaid (asked (speaker n core came) xs) w.accepted w.noCore w.notOn came now
+sentenceOf n (Frame.Arrival core) xs came now = cameSaid (arrivalSaid n core) w.arrived w.noCore w.notPending came now
+sentenceOf n (Frame.Refused why) xs came now = cameSaid (noFrame n why) w.accepted w.outOfRange w.outOfRange came now
+
+-- ---- how the code's branches meet these
+module _ (n core : ℕ) (came : Came) (s r : Sentence) (e : s ≡ onCore n core) where
+  pub speaks-nobody : (why : Status) → came ≡ Told why → r ≡ (s ▹ Column 20) → r ≡ speaker n core came
+  speaks-nobody why c h = rw (c, ← e) h
+
+  pub speaks-world : (made : Made) (t u v : Sentence) → came ≡ Called made → t ≡ (s ▹ Column 12) → u ≡ named t World (made .caller) → v ≡ (u ▹ Word w.colon) → r ≡ (v ▹ Column 20) → r ≡ speaker n core came
+  speaks-world made t u v c f g h i = rw (c, ← e, ← f, ← g, ← h) i
+
+pub no-frame-by : (n : ℕ) (why : Status) (s t r : Sentence) (k : ℕ) → s ≡ (opening n ▹ Word w.noFrame ▹ Column 20) → k ≡ lineOf why → r ≡ (s ▹ Word k) → r ≡ noFrame n why
+no-frame-by n why s t r k e f h = rw (f, e) at h
+
+module _ (n : ℕ) (f : Frame) (xs : List ℕ) (came : Came) (now : ℕ) (s r : Sentence) where
+  pub tells-site : (base pages cores : ℕ) → f ≡ Frame.Site base pages cores → s ≡ siteAsked n base pages cores → r ≡ cameSaid s w.accepted w.outOfRange w.outOfRange came now → r ≡ sentenceOf n f xs came now
+  unfolding sentenceOf
+  tells-site base pages cores e g h = rw (e, ← g) h
+
+  pub tells-entry : (first last kind handler : ℕ) → f ≡ Frame.Entry first last kind handler → s ≡ entryAsked n first last kind handler → r ≡ cameSaid s w.accepted w.outOfRange w.givenBefore came now → r ≡ sentenceOf n f xs came now
+  unfolding sentenceOf
+  tells-entry first last kind handler e g h = rw (e, ← g) h
+
+  pub tells-name : (first count owner : ℕ) → f ≡ Frame.Name first count owner → s ≡ nameAsked n first count owner → r ≡ cameSaid s w.accepted w.outOfRange w.namedBefore came now → r ≡ sentenceOf n f xs came now
+  unfolding sentenceOf
+  tells-name first count owner e g h = rw (e, ← g) h
+
+  pub tells-call : (core : ℕ) (t : Sentence) → f ≡ Frame.Call core → t ≡ speaker n core came → s ≡ asked t xs → r ≡ cameSaid s w.accepted w.noCore w.notOn came now → r ≡ sentenceOf n f xs came now
+  unfolding sentenceOf
+  tells-call core t e i g h = rw (e, ← i, ← g) h
+
+  pub tells-arrival : (core : ℕ) → f ≡ Frame.Arrival core → s ≡ arrivalSaid n core → r ≡ cameSaid s w.arrived w.noCore w.notPending came now → r ≡ sentenceOf n f xs came now
+  unfolding sentenceOf
+  tells-arrival core e g h = rw (e, ← g) h
+
+  pub tells-refused : (why : Status) → f ≡ Frame.Refused why → s ≡ noFrame n why → r ≡ cameSaid s w.accepted w.outOfRange w.outOfRange came now → r ≡ sentenceOf n f xs came now
+  unfolding sentenceOf
+  tells-refused why e g h = rw (e, ← g) h
+
+pub ruleset tells = (speaks-nobody, speaks-world, tells-site, tells-entry, tells-name, tells-call, tells-arrival, tells-refused)
