@@ -1,0 +1,255 @@
+// What there is to tell in the end, one thing after the other, and the sentence for each.
+ghost use mathlib.Core.Path.{_≡_};
+ghost use Rattle.inventory.specs.Inventory.{unlike, rangeEnd, isHeld, heldFrom, rangeThing, heldThing, afterHead, afterCore, afterRange, afterHeld, next, coreTold, rangeTold, heldTold, said, isEnd, pageEnd, pageTold};
+use cores::Powers;
+use cores::Turns;
+use mapping::Lists;
+use origins::Lines;
+use origins::Origins;
+use pages::Owners;
+use pages::Place;
+use phrases::Sentence;
+use rules::MOST_MAPPINGS;
+use rules::MOST_PAGES;
+use rules::WORLDS;
+use setup::Setup;
+use words::names;
+
+// How many places for mappings there are.
+const PLACES: u64 = WORLDS * MOST_MAPPINGS;
+
+// A thing to tell.
+pub enum Thing {
+    // how many lines came
+    Head,
+    NoWindow,
+    Core(u64),
+    // the pages from one on and before another, which have one owner, named by one line
+    Range { first: u64, end: u64 },
+    // a mapping, by its place among those of all worlds
+    Held(u64),
+    NoMappings,
+    End,
+}
+
+// Whether a page has another owner, or was named by another line.
+fn is_unlike(owners: &Owners, origins: &Origins, owner: u64, line: u64, page: u64) -> bool
+    ensures { λ r. ⌜ r ≡ unlike (now (owners .entry)) (now (origins .entry)) owner line page ⌝ }
+{
+    if pages::owner_of(owners, page) == owner {
+        return origins::line_of(origins, page) != line;
+    }
+    true
+}
+
+// The first page from this one on that has another owner, or was named by another line; the window's end where there is none.
+fn range_end(owners: &Owners, origins: &Origins, pages: u64, first: u64) -> u64
+    ensures { λ r. ⌜ r ≡ rangeEnd (now (owners .entry)) (now (origins .entry)) pages first ⌝ }
+{
+    if pages < first {
+        return first;
+    }
+    let owner = pages::owner_of(owners, first);
+    let line = origins::line_of(origins, first);
+    let mut page = first;
+    let mut unseen = pages - first;
+    while 0 < unseen {
+        if is_unlike(owners, origins, owner, line, page) {
+            return page;
+        }
+        page += 1;
+        unseen -= 1;
+    }
+    page
+}
+
+fn is_held(lists: &Lists, i: u64) -> bool
+    ensures { λ r. ⌜ r ≡ isHeld (now (lists .entry)) i ⌝ }
+{
+    let m = places::place_of(lists, i / MOST_MAPPINGS, i % MOST_MAPPINGS);
+    m.size != 0
+}
+
+// The first place from this one on that holds a mapping; the one past the last where there is none.
+fn held_from(lists: &Lists, i: u64) -> u64
+    ensures { λ r. ⌜ r ≡ heldFrom (now (lists .entry)) i ⌝ }
+{
+    if PLACES < i {
+        return i;
+    }
+    let mut at = i;
+    let mut unseen = PLACES - i;
+    while 0 < unseen {
+        if is_held(lists, at) {
+            return at;
+        }
+        at += 1;
+        unseen -= 1;
+    }
+    at
+}
+
+fn range_thing(setup: &Setup, owners: &Owners, origins: &Origins, first: u64) -> Thing
+    ensures { λ r. ⌜ r ≡ rangeThing (now (setup .entry)) (now (owners .entry)) (now (origins .entry)) first ⌝ }
+{
+    let w = setup::window_of(setup);
+    let end = range_end(owners, origins, w.pages, first);
+    Thing::Range { first, end }
+}
+
+fn held_thing(lists: &Lists, i: u64) -> Thing
+    ensures { λ r. ⌜ r ≡ heldThing (now (lists .entry)) i ⌝ }
+{
+    let at = held_from(lists, i);
+    if at < PLACES {
+        return Thing::Held(at);
+    }
+    if i == 0 {
+        return Thing::NoMappings;
+    }
+    Thing::End
+}
+
+fn after_head(setup: &Setup) -> Thing
+    ensures { λ r. ⌜ r ≡ afterHead (now (setup .entry)) ⌝ }
+{
+    if setup::is_ready(setup) {
+        return Thing::Core(0);
+    }
+    Thing::NoWindow
+}
+
+fn after_core(setup: &Setup, owners: &Owners, origins: &Origins, core: u64) -> Thing
+    ensures { λ r. ⌜ r ≡ afterCore (now (setup .entry)) (now (owners .entry)) (now (origins .entry)) core ⌝ }
+{
+    let n = setup::cores_of(setup);
+    if n <= core {
+        return range_thing(setup, owners, origins, 0);
+    }
+    if core + 1 < n {
+        return Thing::Core(core + 1);
+    }
+    range_thing(setup, owners, origins, 0)
+}
+
+fn after_range(setup: &Setup, owners: &Owners, origins: &Origins, lists: &Lists, end: u64) -> Thing
+    ensures { λ r. ⌜ r ≡ afterRange (now (setup .entry)) (now (owners .entry)) (now (origins .entry)) (now (lists .entry)) end ⌝ }
+{
+    let w = setup::window_of(setup);
+    if end < w.pages {
+        return range_thing(setup, owners, origins, end);
+    }
+    held_thing(lists, 0)
+}
+
+fn after_held(lists: &Lists, i: u64) -> Thing
+    ensures { λ r. ⌜ r ≡ afterHeld (now (lists .entry)) i ⌝ }
+{
+    if i < PLACES {
+        return held_thing(lists, i + 1);
+    }
+    Thing::End
+}
+
+// The thing after another.
+pub fn next(thing: Thing, setup: &Setup, owners: &Owners, origins: &Origins, lists: &Lists) -> Thing
+    ensures { λ r. ⌜ r ≡ next (now (setup .entry)) (now (owners .entry)) (now (origins .entry)) (now (lists .entry)) thing ⌝ }
+{
+    match thing {
+        Thing::Head => after_head(setup),
+        Thing::NoWindow => Thing::End,
+        Thing::Core(core) => after_core(setup, owners, origins, core),
+        Thing::Range { first, end } => after_range(setup, owners, origins, lists, end),
+        Thing::Held(i) => after_held(lists, i),
+        Thing::NoMappings => Thing::End,
+        Thing::End => Thing::End,
+    }
+}
+
+fn core_said(powers: &Powers, turns: &Turns, core: u64) -> Sentence
+    ensures { λ r. ⌜ r ≡ coreTold (now (powers .entry)) (now (turns .entry)) core ⌝ }
+{
+    let power = cores::power_of(powers, core);
+    let turn = cores::turn_of(turns, core);
+    standing::core_said(core, power, turn.world)
+}
+
+fn range_said(setup: &Setup, owners: &Owners, origins: &Origins, first: u64, end: u64) -> Sentence
+    ensures { λ r. ⌜ r ≡ rangeTold (now (setup .entry)) (now (owners .entry)) (now (origins .entry)) first end ⌝ }
+{
+    let w = setup::window_of(setup);
+    let owner = pages::owner_of(owners, first);
+    let line = origins::line_of(origins, first);
+    standing::range_said(w, first, end, owner, line)
+}
+
+fn held_said(lists: &Lists, i: u64) -> Sentence
+    ensures { λ r. ⌜ r ≡ heldTold (now (lists .entry)) i ⌝ }
+{
+    let world = i / MOST_MAPPINGS;
+    let m = places::place_of(lists, world, i % MOST_MAPPINGS);
+    standing::mapping_said(world, m)
+}
+
+// What is said of a thing.
+pub fn said(
+    thing: Thing,
+    lines: &Lines,
+    setup: &Setup,
+    owners: &Owners,
+    origins: &Origins,
+    powers: &Powers,
+    turns: &Turns,
+    lists: &Lists,
+) -> Sentence
+    ensures { λ r. ⌜ r ≡ said (now (lines .entry)) (now (setup .entry)) (now (owners .entry)) (now (origins .entry)) (now (powers .entry)) (now (turns .entry)) (now (lists .entry)) thing ⌝ }
+{
+    match thing {
+        Thing::Head => standing::head_said(origins::lines_in(lines)),
+        Thing::NoWindow => standing::word_said(names::NO_WINDOW),
+        Thing::Core(core) => core_said(powers, turns, core),
+        Thing::Range { first, end } => range_said(setup, owners, origins, first, end),
+        Thing::Held(i) => held_said(lists, i),
+        Thing::NoMappings => standing::word_said(names::NO_MAPPINGS),
+        Thing::End => Sentence::blank(),
+    }
+}
+
+// Whether nothing is left to tell.
+pub fn is_end(thing: Thing) -> bool
+    ensures { λ r. ⌜ r ≡ isEnd thing ⌝ }
+{
+    match thing {
+        Thing::Head => false,
+        Thing::NoWindow => false,
+        Thing::Core(core) => false,
+        Thing::Range { first, end } => false,
+        Thing::Held(i) => false,
+        Thing::NoMappings => false,
+        Thing::End => true,
+    }
+}
+
+// The page behind this one.
+fn page_end(page: u64) -> u64
+    ensures { λ r. ⌜ r ≡ pageEnd page ⌝ }
+{
+    if page < MOST_PAGES {
+        return page + 1;
+    }
+    page
+}
+
+// The page that holds an address: whose it is, and by which line.
+pub fn page_said(setup: &Setup, owners: &Owners, origins: &Origins, address: u64) -> Sentence
+    ensures { λ r. ⌜ r ≡ pageTold (now (setup .entry)) (now (owners .entry)) (now (origins .entry)) address ⌝ }
+{
+    if setup::is_ready(setup) {
+        let w = setup::window_of(setup);
+        let Place::Page(page) = w.page_of(address) else {
+            return standing::outside_said(address);
+        };
+        return range_said(setup, owners, origins, page, page_end(page));
+    }
+    standing::word_said(names::NO_WINDOW)
+}
