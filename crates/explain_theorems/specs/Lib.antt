@@ -1,0 +1,5 @@
+pub mod Statements
+pub mod Unbroken
+pub mod Theorems
+pub mod Reads
+pub mod Room

@@ -1,0 +1,4 @@
+pub mod Ranges
+pub mod Told
+pub mod History
+pub mod Theorems

@@ -1,0 +1,1 @@
+// What is told of how things stand, after any lines: theorems for a reviewer, in specs/ alone.
