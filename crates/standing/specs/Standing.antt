@@ -1,5 +1,5 @@
 -- How things stand, a sentence for each core, range of pages and mapping.
-use mathlib.Core.Path.{_≡_, refl}
+use mathlib.Core.Path.{_≡_, refl, sym, _∙_}
 use mathlib.Core.Bool.{Bool, true, false, _&&_}
 use Prim.Native.Nat.{ℕ, _+_, _-_, _*_, _/_, _≤_, _<_}
 use native.Mathlib.Omega.{arith}
@@ -124,18 +124,21 @@ module _ (n : ℕ) where
 
 pub ruleset word-laws = (one-page, some-pages, known-attributes, other-attributes)
 
-module _ (core : ℕ) (power : Power) (world : ℕ) (s : Sentence) where
-  pub core-on : isOn power ≡ true → s ≡ (coreNamed core ▹ Word w.onAnd ▹ Word world ▹ Word w.runs) → s ≡ coreSaid core power world
+module _ (core : ℕ) (power : Power) (world : ℕ) (s n c : Sentence) (e : s ≡ wordSaid w.core) (f : n ≡ (s ▹ Number core)) (g : c ≡ (n ▹ Word w.colon)) (b : Bool) (is : b ≡ isOn power) where
+  pub core-on : (x y r : Sentence) → b ≡ true → x ≡ (c ▹ Word w.onAnd) → y ≡ (x ▹ Word world) → r ≡ (y ▹ Word w.runs) → r ≡ coreSaid core power world
   unfolding coreSaid
-  core-on e h = picked _ _ _ _ e h
+  core-on x y r t h i j = picked _ _ _ _ (sym is ∙ t) (rw (j, i, h, g, f, e))
 
-  pub core-pending : isOn power ≡ false → isPending power ≡ true → s ≡ (coreNamed core ▹ Word w.pending ▹ Hex (power .start)) → s ≡ coreSaid core power world
-  unfolding coreSaid
-  core-pending e f h = passed _ _ _ _ e (picked _ _ _ _ f h)
+  module _ (t : b ≡ false) (p : Bool) (waits : p ≡ isPending power) where
+    pub core-pending : (x r : Sentence) → p ≡ true → x ≡ (c ▹ Word w.pending) → r ≡ (x ▹ Hex (power .start)) → r ≡ coreSaid core power world
+    unfolding coreSaid
+    core-pending x r u h i = passed _ _ _ _ (sym is ∙ t) (picked _ _ _ _ (sym waits ∙ u) (rw (i, h, g, f, e)))
 
-  pub core-off : isOn power ≡ false → isPending power ≡ false → s ≡ (coreNamed core ▹ Word w.offStill) → s ≡ coreSaid core power world
-  unfolding coreSaid
-  core-off e f h = passed _ _ _ _ e (passed _ _ _ _ f h)
+    pub core-off : (r : Sentence) → p ≡ false → r ≡ (c ▹ Word w.offStill) → r ≡ coreSaid core power world
+    unfolding coreSaid
+    core-off r u h = passed _ _ _ _ (sym is ∙ t) (passed _ _ _ _ (sym waits ∙ u) (rw (h, g, f, e)))
+
+pub ruleset core-laws = (core-on, core-pending, core-off)
 
 module _ (s r : Sentence) (line : ℕ) where
   pub origin-none : line ≡ 0 → r ≡ (s ▹ Word w.unnamed) → r ≡ originSaid s line
@@ -154,3 +157,25 @@ module _ (wide : Bool) (a b : ℕ) where
   column-plain e = passed _ _ _ _ e refl
 
 pub ruleset columns = (column-wide, column-plain)
+
+-- ---- piece behind piece
+pub place-said : (v : Window) (first end : ℕ) (s a b r : Sentence) (x y z : ℕ) → s ≡ blank → x ≡ addressOf v first → a ≡ (s ▹ Hex x) → b ≡ (a ▹ Word w.upTo) → y ≡ addressOf v end → z ≡ y - 1 → r ≡ (b ▹ Hex z)
+    → r ≡ placeSaid v first end
+unfolding placeSaid
+place-said v first end s a b r x y z p q f g h i j = rw (j, g, f, p, q, i, h)
+
+pub owner-said : (s : Sentence) (wide : Bool) (count owner : ℕ) (a b c d e r : Sentence) (x n y z : ℕ) → x ≡ pick wide 38 22 → a ≡ (s ▹ Column x) → b ≡ (a ▹ Right count) → n ≡ pagesWord count → c ≡ (b ▹ Word n)
+    → y ≡ pick wide 50 34 → d ≡ (c ▹ Column y) → e ≡ (d ▹ Word owner) → z ≡ pick wide 58 42 → r ≡ (e ▹ Column z) → r ≡ ownerSaid s wide count owner
+unfolding ownerSaid
+owner-said s wide count owner a b c d e r x n y z h i j k l m o p q t = rw (t, p, o, l, j, i, h, k, m, q)
+
+pub maps-said : (world count : ℕ) (s a b c r : Sentence) (n : ℕ) → s ≡ wordSaid world → a ≡ (s ▹ Column 8) → b ≡ (a ▹ Word w.maps) → c ≡ (b ▹ Number count) → n ≡ pagesWord count → r ≡ (c ▹ Word n) → r ≡ mapsSaid world count
+unfolding mapsSaid
+maps-said world count s a b c r n f g h i j k = rw (k, i, h, g, f, j)
+
+pub mapping-said : (world : ℕ) (m : Mapping) (s a b c d e r : Sentence) (n : ℕ) → s ≡ mapsSaid world (m .size / pageSize) → a ≡ (s ▹ Word w.from) → b ≡ (a ▹ Hex (m .phys)) → c ≡ (b ▹ Word w.at) → d ≡ (c ▹ Hex (m .virt))
+    → e ≡ (d ▹ Word w.comma) → n ≡ attributesWord (m .attr) → r ≡ (e ▹ Word n) → r ≡ mappingSaid world m
+unfolding mappingSaid
+mapping-said world m s a b c d e r n f g h i j k l o = rw (o, k, j, i, h, g, f, l)
+
+pub ruleset pieces = (place-said, owner-said, maps-said, mapping-said)

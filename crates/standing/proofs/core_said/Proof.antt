@@ -1,6 +1,6 @@
 -- Each way out is a case of the definition, its pieces one behind the other.
 use borrow.Author.Needs.{needs}
-use Rattle.standing.specs.Standing.{core-on, core-pending, core-off}
+use Rattle.standing.specs.Standing.{core-laws}
 use Rattle.standing.proofs.core_said.Statement.{statement}
 use Rattle.standing.proofs.core_said.Tie as tie
 
@@ -26,7 +26,7 @@ with-requires-5 : tie.Need-with-requires-5
 with-requires-5 c κs = search needs
 
 returns : tie.Need-returns
-returns c = core-on _ _ _ _ (cc) (cc)
+returns c = search (core-laws, needs)
 
 is-pending-requires : tie.Need-is-pending-requires
 is-pending-requires c κs = search needs
@@ -38,13 +38,13 @@ with-requires-7 : tie.Need-with-requires-7
 with-requires-7 c κs = search needs
 
 returns-2 : tie.Need-returns-2
-returns-2 c = core-pending _ _ _ _ (cc) (cc) (cc)
+returns-2 c = search (core-laws, needs)
 
 with-requires-8 : tie.Need-with-requires-8
 with-requires-8 c κs = search needs
 
 returns-3 : tie.Need-returns-3
-returns-3 c = core-off _ _ _ _ (cc) (cc) (cc)
+returns-3 c = search (core-laws, needs)
 
 pub core-said-spec : {M : Type 1} → statement M
 core-said-spec =

@@ -1,6 +1,6 @@
 -- Each piece stands behind those before it.
 use borrow.Author.Needs.{needs}
-use Rattle.standing.specs.Standing.{mappingSaid}
+use Rattle.standing.specs.Standing.{pieces}
 use Rattle.standing.proofs.mapping_said.Statement.{statement}
 use Rattle.standing.proofs.mapping_said.Tie as tie
 
@@ -29,8 +29,7 @@ with-requires-6 : tie.Need-with-requires-6
 with-requires-6 c κs = search needs
 
 returns : tie.Need-returns
-unfolding mappingSaid
-returns c = cc
+returns c = search (pieces, needs)
 
 pub mapping-said-spec : {M : Type 1} → statement M
 mapping-said-spec =

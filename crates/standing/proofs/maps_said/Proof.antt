@@ -1,6 +1,6 @@
 -- Each piece stands behind those before it.
 use borrow.Author.Needs.{needs}
-use Rattle.standing.specs.Standing.{mapsSaid}
+use Rattle.standing.specs.Standing.{pieces}
 use Rattle.standing.proofs.maps_said.Statement.{statement}
 use Rattle.standing.proofs.maps_said.Tie as tie
 
@@ -23,8 +23,7 @@ with-requires-4 : tie.Need-with-requires-4
 with-requires-4 c κs = search needs
 
 returns : tie.Need-returns
-unfolding mapsSaid
-returns c = cc
+returns c = search (pieces, needs)
 
 pub maps-said-spec : {M : Type 1} → statement M
 maps-said-spec =

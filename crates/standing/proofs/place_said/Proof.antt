@@ -1,6 +1,6 @@
 -- Each piece stands behind those before it.
 use borrow.Author.Needs.{needs}
-use Rattle.standing.specs.Standing.{placeSaid}
+use Rattle.standing.specs.Standing.{pieces}
 use Rattle.standing.proofs.place_said.Statement.{statement}
 use Rattle.standing.proofs.place_said.Tie as tie
 
@@ -26,8 +26,7 @@ with-requires-3 : tie.Need-with-requires-3
 with-requires-3 c κs = search needs
 
 returns : tie.Need-returns
-unfolding placeSaid
-returns c = cc
+returns c = search (pieces, needs)
 
 pub place-said-spec : {M : Type 1} → statement M
 place-said-spec =

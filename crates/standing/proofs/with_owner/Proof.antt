@@ -1,6 +1,6 @@
 -- Each piece stands behind those before it.
 use borrow.Author.Needs.{needs}
-use Rattle.standing.specs.Standing.{ownerSaid}
+use Rattle.standing.specs.Standing.{pieces}
 use Rattle.standing.proofs.with_owner.Statement.{statement}
 use Rattle.standing.proofs.with_owner.Tie as tie
 
@@ -35,8 +35,7 @@ with-requires-6 : tie.Need-with-requires-6
 with-requires-6 c κs = search needs
 
 returns : tie.Need-returns
-unfolding ownerSaid
-returns c = cc
+returns c = search (pieces, needs)
 
 pub with-owner-spec : {M : Type 1} → statement M
 with-owner-spec =
