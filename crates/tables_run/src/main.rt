@@ -1,4 +1,4 @@
-// Lists whose tables were worked out by hand. Of each table the entries that are not 0, as table, entry, the number there, and how many
+// Lists at the edges of the rules of tables. Of each table the entries that are not 0, as table, entry, the number there, and how many
 // entries from it on go page by page; then how many tables there are, or 88.
 ghost use Prim.Native.Nat.{_≤_, _<_};
 use building::Built;
