@@ -15,11 +15,11 @@ use Rattle.mapping.specs.Entries.{Inserted, without-missing}
 use Rattle.mapping.specs.Deciding.{deciding-low}
 use Rattle.ranges.specs.Question.{asksFree, asks, answers}
 use Rattle.tools.specs.Search.{first}
-use Rattle.mapping.specs.Places.{gathered, lowest, lowest-any, lowest-none, lowest-free, gathered-clash, heldAt, here-none, here-some, smallest-gathered, room-left, none-left, filled-in, removed, gathered-same, gathered-none, gathered-some}
+use Rattle.mapping.specs.Places.{gathered, lowest, lowest-any, lowest-none, gathered-clash, heldAt, here-none, here-some, smallest-gathered, room-left, none-left, filled-in, removed, gathered-same, gathered-none, gathered-some}
 pub use Rattle.places.specs.Table.{unmapped, WholeLists, unmapped-whole, place}
-use Rattle.places.specs.Found.{found, clashed}
+use Rattle.places.specs.Found.{found, spot, spot-reach, spot-free, spot-full, spot-same, clashed}
 use Rattle.places.specs.Decider.{decider}
-use Rattle.places.specs.Table.{blank, stored, stored-whole, stored-same, stored-other, place-no-world, stored-no-world, stored-no-place, unmapped-blank}
+use Rattle.places.specs.Table.{blank, reach, reach-most, reach-no-world, place-out, stored, stored-whole, stored-at, stored-same, stored-within, stored-elsewhere, stored-no-world, stored-no-place, freed, freed-not, freed-whole, freed-same, freed-within, freed-elsewhere, unmapped-blank}
 use Rattle.ranges.specs.declared.Mapping.{Mapping}
 use Rattle.mapping.specs.declared.Decider.{Decider}
 use Rattle.mapping.specs.declared.Decider.the-variants.{By, Nobody}
@@ -31,13 +31,13 @@ use Rattle.ranges.specs.declared.Question.the-variants.{Free, Exact, OnPages, O
 pub held : List ℕ → ℕ → List Mapping
 held t w = gathered (place t w) 0 mostMappings
 
--- the mapping put at the world's lowest free place; nothing changes where none is free
+-- the mapping put behind the world's last, or at its lowest free place where the last place is held; nothing changes where none is free
 pub holding : List ℕ → ℕ → Mapping → List ℕ
-holding t w m = stored t w (found t w Free) m
+holding t w m = stored t w (spot t w) m
 
 -- the world's lowest place of exactly this start and size made free; nothing changes where there is none
 pub released : List ℕ → ℕ → ℕ → ℕ → List ℕ
-released t w v s = stored t w (found t w (Exact v s)) blank
+released t w v s = freed t w (found t w (Exact v s))
 
 -- ---- the place found, and what the list of the held mappings says
 module _ (t : List ℕ) (w : ℕ) (q : Question) (o : asksFree q ≡ false) where
@@ -61,26 +61,26 @@ module _ (t : List ℕ) (w k : ℕ) where
   unfolding asksFree asks meetsRun onPages
   meets-bytes a n s e f = rw (e, f) (found-any t w (OnRange a (n * pageSize)) refl)
 
-  module _ (e : k ≡ found t w Free) where
+  module _ (e : k ≡ spot t w) where
     pub full-yes : mostMappings ≤ k → isFull (held t w) ≡ true
     unfolding found lowest held isFull
-    full-yes h = le-leb mostMappings (length (held t w)) (omega (arith, none-left (place t w) mostMappings (rw e at h)))
+    full-yes h = le-leb mostMappings (length (held t w)) (omega (arith, none-left (place t w) mostMappings (spot-full t w (rw e at h))))
 
     pub full-no : k < mostMappings → isFull (held t w) ≡ false
-    unfolding found lowest held isFull
-    full-no h = lt-leb mostMappings (length (held t w)) (room-left (place t w) mostMappings (rw e at h))
+    unfolding held isFull
+    full-no h = let l = (rw e at h) in lt-leb mostMappings (length (held t w)) (room-left (place t w) mostMappings (spot t w) l (spot-free t w l))
 
   pub touched-is : (a n : ℕ) → k ≡ found t w (Touches a n) → ltb k mostMappings ≡ touched (held t w) a n
   unfolding asksFree asks touched
   touched-is a n e = rw e (found-any t w (Touches a n) refl)
 
-  pub holding-is : (m : Mapping) (t′ : List ℕ) → k ≡ found t w Free → t′ ≡ stored t w k m → t′ ≡ holding t w m
+  pub holding-is : (m : Mapping) (t′ : List ℕ) → k ≡ spot t w → t′ ≡ stored t w k m → t′ ≡ holding t w m
   unfolding holding
   holding-is m t′ e f = rw (← e) f
 
-  pub released-is : (v s : ℕ) (m : Mapping) (t′ : List ℕ) → k ≡ found t w (Exact v s) → m ≡ blank → t′ ≡ stored t w k m → t′ ≡ released t w v s
+  pub released-is : (v s : ℕ) (t′ : List ℕ) → k ≡ found t w (Exact v s) → t′ ≡ freed t w k → t′ ≡ released t w v s
   unfolding released
-  released-is v s m t′ e g f = rw (← e, ← g) f
+  released-is v s t′ e f = rw (← e) f
 
 -- ---- a place that clashes is one of the list that does
 module _ (t : List ℕ) (w : ℕ) (m : Mapping) (r : Bool) (e : r ≡ clashed t w m) where
@@ -153,34 +153,29 @@ held-unmapped w = gathered-none (place unmapped w) 0 mostMappings (λ i h l. rw 
 
 pub held-no-world : (t : List ℕ) (w : ℕ) → worlds ≤ w → held t w ≡ []
 unfolding held
-held-no-world t w h = gathered-none (place t w) 0 mostMappings (λ i k l. rw (← place-no-world w i t blank refl h))
+held-no-world t w h = gathered-none (place t w) 0 mostMappings (λ i k l. rw (place-out t w i (omega (arith, reach-no-world t w h))))
 
 pub held-some : (t : List ℕ) (w v : ℕ) → hasExactly (held t w) v 0 ≡ false
 unfolding held
 held-some t w v = gathered-some (place t w) 0 mostMappings v
 
--- a store leaves the other worlds' mappings
-stored-elsewhere : (t : List ℕ) (w i : ℕ) (m : Mapping) (u : ℕ) → (u ≡ w → ⊥) → held (stored t w i m) u ≡ held t u
-unfolding held
-stored-elsewhere t w i m u d = gathered-same (place (stored t w i m) u) (place t u) 0 mostMappings (λ j h l. stored-other t w i m u j (λ e f. d e))
-
 module _ (t : List ℕ) (w : ℕ) (m : Mapping) where
   pub holding-whole : WholeLists t → WholeLists (holding t w m)
   unfolding holding
-  holding-whole h = stored-whole t w (found t w Free) m h
+  holding-whole h = stored-whole t w (spot t w) m h
 
   pub holding-other : (u : ℕ) → (u ≡ w → ⊥) → held (holding t w m) u ≡ held t u
-  unfolding holding
-  holding-other u d = stored-elsewhere t w (found t w Free) m u d
+  unfolding holding held
+  holding-other u d = gathered-same (place (stored t w (spot t w) m) u) (place t u) 0 mostMappings (λ j h l. stored-elsewhere t w (spot t w) m u j d)
 
   -- where the world has room, the mapping is put in among those that it holds
   pub holding-inserts : WholeLists t → w < worlds → (m .size ≡ 0 → ⊥) → length (held t w) < mostMappings → Inserted m (held t w) (held (holding t w m) w)
   unfolding holding held found lowest
   holding-inserts h k d r =
-      let i = lowest (place t w) Free mostMappings in
-      let l : i < mostMappings = either (ltb i mostMappings) (ltb-true _ _) (λ n. absurd (omega (arith, none-left (place t w) mostMappings (ltb-false _ _ n)))) in
-      let s : place (stored t w i m) w i ≡ m = stored-same t w i m h k l in
-      (rw s at (filled-in (place t w) (place (stored t w i m) w) mostMappings i l (λ j e. stored-other t w i m w j (λ _ f. e f)) (lowest-free (place t w) mostMappings l) (rw s (ne-eqb _ _ d))))
+      let i = spot t w in
+      let l : i < mostMappings = either (ltb i mostMappings) (ltb-true _ _) (λ n. absurd (omega (arith, none-left (place t w) mostMappings (spot-full t w (ltb-false _ _ n))))) in
+      let s : place (stored t w i m) w i ≡ m = stored-same t w i m h k l (spot-reach t w) d in
+      (rw s at (filled-in (place t w) (place (stored t w i m) w) mostMappings i l (λ j e. stored-within t w i m h j e) (spot-free t w l) (rw s (ne-eqb _ _ d))))
 
 module _ (t : List ℕ) (w v s : ℕ) where
   none-exact : hasExactly [] v s ≡ false
@@ -189,16 +184,18 @@ module _ (t : List ℕ) (w v s : ℕ) where
 
   pub released-whole : WholeLists t → WholeLists (released t w v s)
   unfolding released
-  released-whole h = stored-whole t w (found t w (Exact v s)) blank h
+  released-whole h = freed-whole t w (found t w (Exact v s)) h
 
   pub released-other : (u : ℕ) → (u ≡ w → ⊥) → held (released t w v s) u ≡ held t u
-  unfolding released
-  released-other u d = stored-elsewhere t w (found t w (Exact v s)) blank u d
+  unfolding released held
+  released-other u d =
+      let i = found t w (Exact v s) in gathered-same (place (freed t w i) u) (place t u) 0 mostMappings (λ j h l. freed-elsewhere t w i u j d)
 
   -- where the world holds no such mapping, nothing changes
   pub released-none : hasExactly (held t w) v s ≡ false → released t w v s ≡ t
   unfolding released
-  released-none e = sym (stored-no-place w (found t w (Exact v s)) t blank (ltb-false _ _ (has-is t w (found t w (Exact v s)) v s refl ∙ e)))
+  released-none e =
+      let i = found t w (Exact v s) in freed-not t w i (omega (arith, reach-most t w, ltb-false i mostMappings (has-is t w i v s refl ∙ e)))
 
   -- the first mapping of exactly this start and size is taken out
   pub released-takes : WholeLists t → held (released t w v s) w ≡ without (held t w) v s
@@ -206,24 +203,23 @@ module _ (t : List ℕ) (w v s : ℕ) where
   released-takes h =
       let i = lowest (place t w) (Exact v s) mostMappings in
       either (hasExactly (held t w) v s)
-      (λ y. let k : w < worlds = either (ltb w worlds) (ltb-true _ _) (λ n. absurd (yes-or-no _ y (rw (held-no-world t w (ltb-false _ _ n)) none-exact))) in
-      let l : i < mostMappings = ltb-true _ _ (has-is t w i v s refl ∙ y) in
-      let b : place (stored t w i blank) w i ≡ blank = stored-same t w i blank h k l in
-      removed (place t w) (place (stored t w i blank) w) mostMappings v s l (λ j e. stored-other t w i blank w j (λ _ f. e f)) (rw b))
+      (λ y. let l : i < mostMappings = ltb-true _ _ (has-is t w i v s refl ∙ y) in
+      let b : place (freed t w i) w i ≡ blank = freed-same t w i h in
+      removed (place t w) (place (freed t w i) w) mostMappings v s l (λ j e. freed-within t w i h j e) (rw b))
       (λ n. rw (released-none n, without-missing v s (held t w) n))
 
--- ---- two tables with the same mappings of a world, place by place. That the lists are the same would not do: a mapping takes the lowest free place
+-- ---- two tables with the same mappings of a world, place by place. That the lists are the same would not do: where a mapping goes depends on the places
 abbrev pub SamePlaces : ℕ → List ℕ → List ℕ → Type 0
 SamePlaces w t u = (i : ℕ) → place t w i ≡ place u w i
 
 -- a change of one world's mappings leaves every other world's places
 pub holding-places : (t : List ℕ) (w u : ℕ) (m : Mapping) → (u ≡ w → ⊥) → SamePlaces u (holding t w m) t
 unfolding holding
-holding-places t w u m d i = stored-other t w (found t w Free) m u i (λ e f. d e)
+holding-places t w u m d i = stored-elsewhere t w (spot t w) m u i d
 
 pub released-places : (t : List ℕ) (w u v s : ℕ) → (u ≡ w → ⊥) → SamePlaces u (released t w v s) t
 unfolding released
-released-places t w u v s d i = stored-other t w (found t w (Exact v s)) blank u i (λ e f. d e)
+released-places t w u v s d i = freed-elsewhere t w (found t w (Exact v s)) u i d
 
 module _ (w : ℕ) (t u : List ℕ) (same : SamePlaces w t u) where
   pub held-same : held t w ≡ held u w
@@ -235,38 +231,39 @@ module _ (w : ℕ) (t u : List ℕ) (same : SamePlaces w t u) where
   found-same q = λ i. first (λ k. answers q (same k i)) 0 mostMappings
 
   module _ (a : WholeLists t) (b : WholeLists u) where
-    -- one mapping put at one place of both
-    stored-both : (v i : ℕ) (m : Mapping) → SamePlaces w (stored t v i m) (stored u v i m)
-    stored-both v i m j =
-        either (eqb w v && eqb j i)
-        (λ y. let e : v ≡ w = sym (eqb-true w v (left-true (eqb w v) (eqb j i) y)) in
-        let f : i ≡ j = sym (eqb-true j i (right-true (eqb w v) (eqb j i) y)) in
-        rw (e, f) here)
-        (λ n. stored-other t v i m w j (apart n) ∙ same j ∙ sym (stored-other u v i m w j (apart n)))
-      where
-        here : place (stored t w j m) w j ≡ place (stored u w j m) w j
-        here =
-            either (ltb w worlds)
-            (λ y. either (ltb j mostMappings)
-            (λ z. let k = ltb-true w worlds y in let l = ltb-true j mostMappings z in stored-same t w j m a k l ∙ sym (stored-same u w j m b k l))
-            (λ z. let l = ltb-false j mostMappings z in rw (← stored-no-place w j t m l, ← stored-no-place w j u m l) (same j)))
-            (λ y. let k = ltb-false w worlds y in rw (← stored-no-world w j t m k, ← stored-no-world w j u m k) (same j))
+    -- one mapping put at the place where it goes in both
+    held-both : (m : Mapping) → SamePlaces w (stored t w (spot t w) m) (stored u w (spot u w) m)
+    held-both m j =
+        let i = spot u w in
+        let e : spot t w ≡ i = spot-same t u w same in
+        let r : i ≤ reach t w = (rw e at (spot-reach t w)) in
+        rw e
+        (either (eqb j i)
+        (λ y. let f : j ≡ i = eqb-true j i y in
+        rw f
+        (either (ltb w worlds)
+        (λ x. either (ltb i mostMappings)
+        (λ z. let k = ltb-true w worlds x in let l = ltb-true i mostMappings z in stored-at t w i m a k l r ∙ sym (stored-at u w i m b k l (spot-reach u w)))
+        (λ z. let l = ltb-false i mostMappings z in rw (← stored-no-place t w i m l, ← stored-no-place u w i m l) (same i)))
+        (λ x. let k = ltb-false w worlds x in rw (← stored-no-world t w i m k, ← stored-no-world u w i m k) (same i))))
+        (λ n. let d = eqb-false j i n in stored-within t w i m a j d ∙ same j ∙ sym (stored-within u w i m b j d)))
 
-        apart : (eqb w v && eqb j i) ≡ false → w ≡ v → j ≡ i → ⊥
-        apart n e f = yes-or-no (eqb w v && eqb j i) (both-true (eqb w v) (eqb j i) (eq-eqb w v e) (eq-eqb j i f)) n
-
-    -- one change of both, at the place that each finds
-    changed-both : (v : ℕ) (q : Question) (m : Mapping) → SamePlaces w (stored t v (found t v q) m) (stored u v (found u v q) m)
-    changed-both v q m =
-        either (eqb w v)
-        (λ y. let e : v ≡ w = sym (eqb-true w v y) in rw (e, found-same q) (stored-both w (found u w q) m))
-        (λ n j. let d = eqb-false w v n in
-        stored-other t v (found t v q) m w j (λ e f. d e) ∙ same j ∙ sym (stored-other u v (found u v q) m w j (λ e f. d e)))
+    -- one place made free in both
+    freed-both : (i : ℕ) → SamePlaces w (freed t w i) (freed u w i)
+    freed-both i j =
+        either (eqb j i)
+        (λ y. let f : j ≡ i = eqb-true j i y in rw f (freed-same t w i a ∙ sym (freed-same u w i b)))
+        (λ n. let d = eqb-false j i n in freed-within t w i a j d ∙ same j ∙ sym (freed-within u w i b j d))
 
     pub holding-both : (v : ℕ) (m : Mapping) → SamePlaces w (holding t v m) (holding u v m)
     unfolding holding
-    holding-both v m = changed-both v Free m
+    holding-both v m =
+        either (eqb w v) (λ y. let e : v ≡ w = sym (eqb-true w v y) in rw e (held-both m))
+        (λ n j. let d = eqb-false w v n in stored-elsewhere t v (spot t v) m w j d ∙ same j ∙ sym (stored-elsewhere u v (spot u v) m w j d))
 
     pub released-both : (v x s : ℕ) → SamePlaces w (released t v x s) (released u v x s)
     unfolding released
-    released-both v x s = changed-both v (Exact x s) blank
+    released-both v x s =
+        either (eqb w v) (λ y. let e : v ≡ w = sym (eqb-true w v y) in rw (e, found-same (Exact x s)) (freed-both (found u w (Exact x s))))
+        (λ n j. let d = eqb-false w v n in
+        freed-elsewhere t v (found t v (Exact x s)) w j d ∙ same j ∙ sym (freed-elsewhere u v (found u v (Exact x s)) w j d))

@@ -70,7 +70,7 @@ pub fn judge_map(lists: &Lists, owners: &Owners, w: Window, world: u64, m: Mappi
     Verdict::No(Reason::NotOwned)
 }
 
-// Holds the mapping at the world's lowest free place. Where none is free, nothing changes.
+// Holds the mapping behind the world's last, or at its lowest free place. Where none is free, nothing changes.
 pub fn hold(lists: &mut Lists, world: u64, m: Mapping)
     ensures { λ r. ⌜ now (lists .exit) ≡ holding (now (lists .entry)) world m ⌝ }
 {
@@ -90,7 +90,7 @@ pub fn release(lists: &mut Lists, world: u64, virt: u64, size: u64)
     ensures { λ r. ⌜ now (lists .exit) ≡ released (now (lists .entry)) world virt size ⌝ }
 {
     let i = places::find_exact(lists, world, virt, size);
-    places::store(lists, world, i, places::blank());
+    places::free(lists, world, i);
 }
 
 // Whether `count` pages from the address `start` on meet the physical range of a mapping of the world. A count past any

@@ -1,14 +1,18 @@
--- The lowest place of a world that answers a question, whether one clashes with a new mapping, and the searches for them.
-use mathlib.Core.Path.{_≡_, refl}
+-- The lowest place of a world that answers a question, where a new mapping goes, whether a place clashes with it, and the searches for them.
+use mathlib.Core.Path.{_≡_, refl, sym, _∙_}
 use mathlib.Core.Bool.{Bool, true, false}
 use mathlib.Core.List.{List}
-use Prim.Native.Nat.{ℕ, _+_, _-_, _≤_, _<_}
+use Prim.Native.Nat.{ℕ, zero, suc, _+_, _-_, _≤_, _<_}
 use native.Mathlib.Omega.{arith}
-use Rattle.tools.specs.Search.{first, first-goes, first-stops, first-ends, any, any-goes, any-stops, any-ends}
-use Rattle.ranges.specs.Question.{answers, clashing}
+use lib.Dec.{ltb}
+use borrow.Author.Tests.{lt-ltb, le-ltb, ltb-true, ltb-false, eq-eqb, ne-eqb}
+use Rattle.rules.specs.Choice.{pick, picked, passed, pick-yes, pick-no, either, chosen, neither}
+use Rattle.tools.specs.Search.{first, first-is, first-goes, first-stops, first-ends, any, any-goes, any-stops}
+use Rattle.ranges.specs.Question.{isFree, asksFree, asks, answers, clashing}
 use Rattle.ranges.specs.declared.Mapping.{Mapping}
 use Rattle.ranges.specs.declared.Question.{Question}
-use Rattle.places.specs.Table.{places, place}
+use Rattle.ranges.specs.declared.Question.the-variants.{Free}
+use Rattle.places.specs.Table.{places, place, blank, reach, raw, behind, behind-last, behind-held, used, used-reach, used-free, used-same, reach-most, place-out, place-asked}
 
 -- what is asked of each place
 abbrev pub asked : List ℕ → ℕ → Question → ℕ → Bool
@@ -18,61 +22,197 @@ asked t w q i = answers q (place t w i)
 unfoldable pub found : List ℕ → ℕ → Question → ℕ
 found t w q = first (asked t w q) 0 places
 
--- ---- the loops of this crate's code: the places below i do not answer
-pub record Searching (t : List ℕ) (w : ℕ) (q : Question) (i : ℕ) : Type 0 where
-  pub most : i ≤ places
+-- where a new mapping goes: behind the last that is held; where that is the last place, to the lowest that is free; 16 where none is
+unfoldable pub spot : List ℕ → ℕ → ℕ
+spot t w = pick (ltb (used t w) places) (used t w) (found t w Free)
+
+-- ---- what is asked of a free place
+free-answers : (q : Question) (m : Mapping) → isFree m ≡ true → answers q m ≡ answers q blank
+unfolding answers
+free-answers q m e = pick-yes (isFree m) _ _ e ∙ sym (pick-yes (isFree blank) _ _ refl)
+
+free-clashes : (n m : Mapping) → isFree m ≡ true → clashing n m ≡ clashing n blank
+unfolding clashing
+free-clashes n m e = pick-yes (isFree m) _ _ e ∙ sym (pick-yes (isFree blank) _ _ refl)
+
+free-asked : (m : Mapping) → answers Free m ≡ isFree m
+unfolding answers asksFree asks
+free-asked m = either (isFree m) (λ y. pick-yes (isFree m) _ _ y ∙ sym y) (λ n. pick-no (isFree m) _ _ n ∙ sym n)
+
+blank-answers : (q : Question) → answers q blank ≡ asksFree q
+unfolding answers
+blank-answers q = pick-yes (isFree blank) _ _ refl
+
+blank-clashes : (n : Mapping) → clashing n blank ≡ false
+unfolding clashing
+blank-clashes n = pick-yes (isFree blank) _ _ refl
+
+-- nobody answers
+first-blind : (p : ℕ → Bool) (a n : ℕ) → ((j : ℕ) → a ≤ j → p j ≡ false) → first p a n ≡ a + n
+first-blind p a n h =
+    let r = first-is p a n in
+    either (ltb (first p a n) (a + n))
+    (λ y. let z : true ≡ false = sym (r .passes (ltb-true (first p a n) (a + n) y)) ∙ h (first p a n) (r .low) in cc)
+    (λ z. omega (arith, r .high, ltb-false (first p a n) (a + n) z))
+
+any-blind : (p : ℕ → Bool) (a n : ℕ) → ((j : ℕ) → a ≤ j → p j ≡ false) → any p a n ≡ false
+unfolding any
+any-blind p a zero h = refl
+any-blind p a (suc n) h = neither (p a) _ (h a (omega arith)) (any-blind p (suc a) n (λ j l. h j (omega arith)))
+
+-- ---- the loops of this crate's code: e is the world's reach, and the places below i do not answer
+pub record Searching (t : List ℕ) (w : ℕ) (q : Question) (e i : ℕ) : Type 0 where
+  pub most : i ≤ e
+  pub is-reach : e ≡ reach t w
   pub rest : found t w q ≡ first (asked t w q) i (places - i)
 
-pub searching-starts : (t : List ℕ) (w : ℕ) (q : Question) → Searching t w q 0
+pub searching-starts : (t : List ℕ) (w : ℕ) (q : Question) (e : ℕ) → e ≡ reach t w → Searching t w q e 0
 unfolding found
-searching-starts t w q = record { most = omega arith; rest = refl }
+searching-starts t w q e f = record { most = omega arith; is-reach = f; rest = refl }
 
-module _ (t : List ℕ) (w : ℕ) (q : Question) (i : ℕ) (s : Searching t w q i) where
+module _ (t : List ℕ) (w : ℕ) (q : Question) (e i : ℕ) (s : Searching t w q e i) where
+  inside : e ≤ places
+  inside = rw (s .is-reach) (reach-most t w)
+
   -- the mapping at place i, and what it answers
-  module _ (m : Mapping) (r : Bool) (read : m ≡ place t w i) (said : r ≡ answers q m) (h : i < places) where
+  module _ (m : Mapping) (r : Bool) (read : m ≡ raw t w i) (said : r ≡ answers q m) (h : i < e) where
     answered : (b : Bool) → r ≡ b → asked t w q i ≡ b
-    answered b e = rw (← read, ← said) e
+    answered b f = place-asked t w i (answers q) (free-answers q) (rw (s .is-reach) at h) ∙ rw (← read, ← said) f
 
-    pub searching-goes : r ≡ false → Searching t w q (i + 1)
-    searching-goes e =
-        let z : places - (i + 1) ≡ places - i - 1 = omega arith in
-        record { most = omega arith; rest = rw z (first-goes _ _ _ _ (s .rest) (omega arith) (answered false e)) }
+    pub searching-goes : r ≡ false → Searching t w q e (i + 1)
+    searching-goes f =
+        let z : places - (i + 1) ≡ places - i - 1 = omega (arith, inside) in
+        record { most = omega arith; is-reach = s .is-reach; rest = rw z (first-goes _ _ _ _ (s .rest) (omega (arith, inside)) (answered false f)) }
 
     pub searching-stops : r ≡ true → i ≡ found t w q
-    searching-stops e = first-stops _ _ _ _ (s .rest) (omega arith) (answered true e)
+    searching-stops f = first-stops _ _ _ _ (s .rest) (omega (arith, inside)) (answered true f)
 
-  pub searching-ends : places ≤ i → i ≡ found t w q
-  searching-ends h = first-ends _ _ _ _ (s .rest) (omega arith)
+  module _ (h : e ≤ i) where
+    -- past the reach no place is held
+    past : (j : ℕ) → i ≤ j → asked t w q j ≡ asksFree q
+    past j l = let z : reach t w ≤ j = omega (arith, s .is-reach) in rw (place-out t w j z) (blank-answers q)
+
+    pub searching-ends : asksFree q ≡ false → places ≡ found t w q
+    searching-ends o =
+        let z : i + (places - i) ≡ places = omega (arith, s .most, inside) in
+        sym (s .rest ∙ first-blind (asked t w q) i (places - i) (λ j l. past j l ∙ o) ∙ z)
+
+    pub searching-free : asksFree q ≡ true → e ≡ found t w q
+    searching-free o =
+        let z : i ≡ e = omega (arith, s .most) in
+        either (ltb e places) (λ y. rw (← z) (first-stops _ _ _ _ (s .rest) (omega (arith, ltb-true e places y)) (past i (omega arith) ∙ o)))
+        (λ n. rw (← z) (first-ends _ _ _ _ (s .rest) (omega (arith, ltb-false e places n))))
 
 pub ruleset searching = (searching-starts, searching-goes, searching-stops, searching-ends)
+
+pub ruleset searching-for-room = (searching-starts, searching-goes, searching-stops, searching-free)
+
+-- ---- where the free places at the end begin
+pub record Lowering (t : List ℕ) (w n k : ℕ) : Type 0 where
+  pub most : k ≤ n
+  pub rest : behind (raw t w) n ≡ behind (raw t w) k
+
+pub lowering-starts : (t : List ℕ) (w n : ℕ) → Lowering t w n n
+lowering-starts t w n = record { most = omega arith; rest = refl }
+
+module _ (t : List ℕ) (w n k : ℕ) (s : Lowering t w n k) where
+  module _ (m : Mapping) (h : 0 < k) (read : m ≡ raw t w (k - 1)) where
+    pub lowering-goes : m .size ≡ 0 → Lowering t w n (k - 1)
+    lowering-goes f =
+        let z : suc (k - 1) ≡ k = omega arith in
+        record { most = omega (arith, s .most); rest = s .rest ∙ (rw z at (behind-last (raw t w) (k - 1) (rw (← read) (eq-eqb _ _ f)))) }
+
+    pub lowering-stops : (m .size ≡ 0 → ⊥) → k ≡ behind (raw t w) n
+    lowering-stops f =
+        let z : suc (k - 1) ≡ k = omega arith in
+        sym (s .rest ∙ (rw z at (behind-held (raw t w) (k - 1) (rw (← read) (ne-eqb _ _ f)))))
+
+  pub lowering-ends : k ≤ 0 → 0 ≡ behind (raw t w) n
+  unfolding behind
+  lowering-ends h = let z : k ≡ 0 = omega arith in sym (s .rest ∙ rw z)
+
+pub ruleset lowering = (lowering-starts, lowering-goes, lowering-stops, lowering-ends)
+
+-- ---- where a new mapping goes
+module _ (t : List ℕ) (w n : ℕ) where
+  pub spot-behind : n ≡ used t w → n < places → n ≡ spot t w
+  unfolding spot
+  spot-behind e h = picked _ _ _ _ (lt-ltb (used t w) places (rw e at h)) e
+
+  pub spot-between : (r : ℕ) → n ≡ used t w → places ≤ n → r ≡ found t w Free → r ≡ spot t w
+  unfolding spot
+  spot-between r e h f = passed _ _ _ _ (le-ltb (used t w) places (rw e at h)) f
+
+pub ruleset spots = (spot-behind, spot-between)
+
+module _ (t : List ℕ) (w : ℕ) where
+  found-most : found t w Free ≤ places
+  unfolding found
+  found-most = first-is (asked t w Free) 0 places .high
+
+  -- within the reach, or the next
+  pub spot-reach : spot t w ≤ reach t w
+  unfolding spot
+  spot-reach =
+      chosen (λ (k : ℕ). k ≤ reach t w) (ltb (used t w) places) _ _ (λ y. used-reach t w)
+      (λ n. omega (arith, found-most, ltb-false (used t w) places n, used-reach t w))
+
+  found-passes : found t w Free < places → asked t w Free (found t w Free) ≡ true
+  unfolding found
+  found-passes h = first-is (asked t w Free) 0 places .passes (omega arith)
+
+  -- it is free, and where it is no place none is free
+  pub spot-free : spot t w < places → isFree (place t w (spot t w)) ≡ true
+  unfolding spot
+  spot-free =
+      chosen (λ (k : ℕ). k < places → isFree (place t w k) ≡ true) (ltb (used t w) places) _ _ (λ y h. used-free t w (used t w) (omega arith) h)
+      (λ n h. sym (free-asked (place t w (found t w Free))) ∙ found-passes h)
+
+  pub spot-full : places ≤ spot t w → places ≤ found t w Free
+  unfolding spot
+  spot-full = chosen (λ (k : ℕ). places ≤ k → places ≤ found t w Free) (ltb (used t w) places) _ _ (λ y h. absurd (omega (arith, ltb-true (used t w) places y))) (λ n h. h)
+
+-- it goes by the places alone
+pub spot-same : (t u : List ℕ) (w : ℕ) → ((i : ℕ) → place t w i ≡ place u w i) → spot t w ≡ spot u w
+unfolding spot found
+spot-same t u w same =
+    let a : used t w ≡ used u w = used-same t u w same in
+    let b : first (asked t w Free) 0 places ≡ first (asked u w Free) 0 places = λ i. first (λ k. answers Free (same k i)) 0 places in
+    rw (a, b)
 
 -- ---- a place is held that the new mapping may not stand beside
 unfoldable pub clashed : List ℕ → ℕ → Mapping → Bool
 clashed t w n = any (λ (i : ℕ). clashing n (place t w i)) 0 places
 
 -- the places below i do not clash
-pub record Clearing (t : List ℕ) (w : ℕ) (n : Mapping) (i : ℕ) : Type 0 where
-  pub most : i ≤ places
+pub record Clearing (t : List ℕ) (w : ℕ) (n : Mapping) (e i : ℕ) : Type 0 where
+  pub most : i ≤ e
+  pub is-reach : e ≡ reach t w
   pub rest : clashed t w n ≡ any (λ (i : ℕ). clashing n (place t w i)) i (places - i)
 
-pub clearing-starts : (t : List ℕ) (w : ℕ) (n : Mapping) → Clearing t w n 0
+pub clearing-starts : (t : List ℕ) (w : ℕ) (n : Mapping) (e : ℕ) → e ≡ reach t w → Clearing t w n e 0
 unfolding clashed
-clearing-starts t w n = record { most = omega arith; rest = refl }
+clearing-starts t w n e f = record { most = omega arith; is-reach = f; rest = refl }
 
-module _ (t : List ℕ) (w : ℕ) (n : Mapping) (i : ℕ) (s : Clearing t w n i) where
-  module _ (m : Mapping) (r : Bool) (read : m ≡ place t w i) (said : r ≡ clashing n m) (h : i < places) where
+module _ (t : List ℕ) (w : ℕ) (n : Mapping) (e i : ℕ) (s : Clearing t w n e i) where
+  within : e ≤ places
+  within = rw (s .is-reach) (reach-most t w)
+
+  module _ (m : Mapping) (r : Bool) (read : m ≡ raw t w i) (said : r ≡ clashing n m) (h : i < e) where
     told : (b : Bool) → r ≡ b → clashing n (place t w i) ≡ b
-    told b e = rw (← read, ← said) e
+    told b f = place-asked t w i (clashing n) (free-clashes n) (rw (s .is-reach) at h) ∙ rw (← read, ← said) f
 
-    pub clearing-goes : r ≡ false → Clearing t w n (i + 1)
-    clearing-goes e =
-        let z : places - (i + 1) ≡ places - i - 1 = omega arith in
-        record { most = omega arith; rest = rw z (any-goes _ _ _ _ (s .rest) (omega arith) (told false e)) }
+    pub clearing-goes : r ≡ false → Clearing t w n e (i + 1)
+    clearing-goes f =
+        let z : places - (i + 1) ≡ places - i - 1 = omega (arith, within) in
+        record { most = omega arith; is-reach = s .is-reach; rest = rw z (any-goes _ _ _ _ (s .rest) (omega (arith, within)) (told false f)) }
 
     pub clearing-stops : r ≡ true → true ≡ clashed t w n
-    clearing-stops e = any-stops _ _ _ _ (s .rest) (omega arith) (told true e)
+    clearing-stops f = any-stops _ _ _ _ (s .rest) (omega (arith, within)) (told true f)
 
-  pub clearing-ends : places ≤ i → false ≡ clashed t w n
-  clearing-ends h = any-ends _ _ _ _ (s .rest) (omega arith)
+  pub clearing-ends : e ≤ i → false ≡ clashed t w n
+  clearing-ends h =
+      sym (s .rest ∙ any-blind (λ (j : ℕ). clashing n (place t w j)) i (places - i)
+      (λ j l. let z : reach t w ≤ j = omega (arith, s .is-reach) in rw (place-out t w j z) (blank-clashes n)))
 
 pub ruleset clearing = (clearing-starts, clearing-goes, clearing-stops, clearing-ends)

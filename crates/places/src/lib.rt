@@ -1,17 +1,22 @@
 // Each world's sixteen places, free or held, in one table that the caller lends. Where there is no such world or place, reading
-// gives a free one and writing changes nothing.
+// gives a free one and writing changes nothing. No search looks past the last place that is held.
 ghost use mathlib.Core.Path.{_≡_};
-ghost use Rattle.ranges.specs.declared.Question.the-variants.{Free, Exact, OnPages, OnRange, Touches};
-ghost use Rattle.places.specs.Table.{blank, unmapped, place, stored};
-ghost use Rattle.places.specs.Found.{found, clashed};
+ghost use Prim.Native.Nat.{_≤_, _<_};
+ghost use Rattle.ranges.specs.declared.Question.the-variants.{Exact, OnPages, OnRange, Touches, Free};
+ghost use Rattle.places.specs.Table.{blank, unmapped, reach, raw, written, resized, behind, grown, used, place, stored, freed};
+ghost use Rattle.places.specs.Found.{found, spot, clashed};
 ghost use Rattle.places.specs.Decider.{decider};
 use ranges::Mapping;
 use ranges::Question;
 use rules::MOST_MAPPINGS;
 use rules::WORLDS;
 
-// Virtual start, physical start, size and attributes of each place. A place of size 0 is free.
-pub type Lists = [u64; WORLDS as usize * MOST_MAPPINGS as usize * 4];
+// Where the reach of each world stands: behind the places.
+const REACHES: u64 = WORLDS * MOST_MAPPINGS * 4;
+
+// Virtual start, physical start, size and attributes of each place, and then the reach of each world: from that place on none is
+// held. A place of size 0 is free.
+pub type Lists = [u64; REACHES as usize + WORLDS as usize];
 
 // What stands at a free place.
 pub fn blank() -> Mapping
@@ -29,19 +34,28 @@ pub fn blank() -> Mapping
 pub fn fresh() -> Lists
     ensures { λ r. ⌜ r ≡ unmapped ⌝ }
 {
-    [0; WORLDS as usize * MOST_MAPPINGS as usize * 4]
+    [0; REACHES as usize + WORLDS as usize]
 }
 
-// The mapping at a place of the world, blank where there is no such place.
-pub fn place_of(lists: &Lists, world: u64, i: u64) -> Mapping
-    ensures { λ r. ⌜ r ≡ place (now (lists .entry)) world i ⌝ }
+// From which place on nothing of the world is held: sixteen at most, 0 where there is no such world.
+fn reach_of(lists: &Lists, world: u64) -> u64
+    ensures { λ r. ⌜ r ≡ reach (now (lists .entry)) world ⌝ }
 {
     if WORLDS <= world {
-        return blank();
+        return 0;
     }
-    if MOST_MAPPINGS <= i {
-        return blank();
+    let n = lists[(REACHES + world) as usize];
+    if MOST_MAPPINGS < n {
+        return MOST_MAPPINGS;
     }
+    n
+}
+
+// The numbers of a place as they stand.
+fn raw_at(lists: &Lists, world: u64, i: u64) -> Mapping
+    requires { ⌜ world < 4 ⌝ ∗ ⌜ i < 16 ⌝ }
+    ensures { λ r. ⌜ r ≡ raw (now (lists .entry)) world i ⌝ }
+{
     let at = ((world * MOST_MAPPINGS + i) * 4) as usize;
     Mapping {
         virt: lists[at],
@@ -51,7 +65,68 @@ pub fn place_of(lists: &Lists, world: u64, i: u64) -> Mapping
     }
 }
 
-// Puts the mapping at a place of the world.
+// Other numbers in their stead.
+fn write_at(lists: &mut Lists, world: u64, i: u64, m: Mapping)
+    requires { ⌜ world < 4 ⌝ ∗ ⌜ i < 16 ⌝ }
+    ensures { λ _. ⌜ now (lists .exit) ≡ written (now (lists .entry)) world i m ⌝ }
+{
+    let at = ((world * MOST_MAPPINGS + i) * 4) as usize;
+    lists[at] = m.virt;
+    lists[at + 1] = m.phys;
+    lists[at + 2] = m.size;
+    lists[at + 3] = m.attr;
+}
+
+// Another reach of the world.
+fn resize(lists: &mut Lists, world: u64, n: u64)
+    requires { ⌜ world < 4 ⌝ }
+    ensures { λ _. ⌜ now (lists .exit) ≡ resized (now (lists .entry)) world n ⌝ }
+{
+    lists[(REACHES + world) as usize] = n;
+}
+
+// How many of the first n places there are without the free ones at their end.
+fn last_held(lists: &Lists, world: u64, n: u64) -> u64
+    requires { ⌜ world < 4 ⌝ ∗ ⌜ n ≤ 16 ⌝ }
+    ensures { λ r. ⌜ r ≡ behind (raw (now (lists .entry)) world) n ⌝ }
+{
+    let mut k = n;
+    while 0 < k {
+        let m = raw_at(lists, world, k - 1);
+        if m.size != 0 {
+            return k;
+        }
+        k -= 1;
+    }
+    0
+}
+
+// The mapping at a place of the world, blank where nothing is held.
+pub fn place_of(lists: &Lists, world: u64, i: u64) -> Mapping
+    ensures { λ r. ⌜ r ≡ place (now (lists .entry)) world i ⌝ }
+{
+    if reach_of(lists, world) <= i {
+        return blank();
+    }
+    let m = raw_at(lists, world, i);
+    if m.size == 0 {
+        return blank();
+    }
+    m
+}
+
+// The reach with a place held too that is within it or the next.
+fn grown(n: u64, i: u64) -> u64
+    requires { ⌜ i < 16 ⌝ }
+    ensures { λ r. ⌜ r ≡ grown n i ⌝ }
+{
+    if i == n {
+        return i + 1;
+    }
+    n
+}
+
+// Puts the mapping at a place of the world that is within its reach, or the next.
 pub fn store(lists: &mut Lists, world: u64, i: u64, m: Mapping)
     ensures { λ r. ⌜ now (lists .exit) ≡ stored (now (lists .entry)) world i m ⌝ }
 {
@@ -61,93 +136,135 @@ pub fn store(lists: &mut Lists, world: u64, i: u64, m: Mapping)
     if MOST_MAPPINGS <= i {
         return;
     }
-    let at = ((world * MOST_MAPPINGS + i) * 4) as usize;
-    lists[at] = m.virt;
-    lists[at + 1] = m.phys;
-    lists[at + 2] = m.size;
-    lists[at + 3] = m.attr;
+    let end = reach_of(lists, world);
+    if end < i {
+        return;
+    }
+    write_at(lists, world, i, m);
+    resize(lists, world, grown(end, i));
+}
+
+// Makes a place of the world free. Its reach then ends behind the last place that is held.
+pub fn free(lists: &mut Lists, world: u64, i: u64)
+    ensures { λ r. ⌜ now (lists .exit) ≡ freed (now (lists .entry)) world i ⌝ }
+{
+    let end = reach_of(lists, world);
+    if end <= i {
+        return;
+    }
+    write_at(lists, world, i, blank());
+    let left = last_held(lists, world, end);
+    resize(lists, world, left);
 }
 
 // The searches: the lowest place of the world that answers, or 16. Each question has a loop of its own, in which it is known: a loop
 // that is handed its question asks at each place which one it is.
 
 // The lowest place that is free.
-pub fn find_free(lists: &Lists, world: u64) -> u64
+fn lowest_free(lists: &Lists, world: u64) -> u64
     ensures { λ r. ⌜ r ≡ found (now (lists .entry)) world Free ⌝ }
 {
+    let end = reach_of(lists, world);
     let mut i = 0;
-    while i < MOST_MAPPINGS {
-        if place_of(lists, world, i).answers(Question::Free) {
+    while i < end {
+        if raw_at(lists, world, i).answers(Question::Free) {
             return i;
         }
         i += 1;
     }
-    i
+    end
+}
+
+// How far the world's mappings go: behind the last that is held.
+fn used_of(lists: &Lists, world: u64) -> u64
+    ensures { λ r. ⌜ r ≡ used (now (lists .entry)) world ⌝ }
+{
+    let end = reach_of(lists, world);
+    if end == 0 {
+        return 0;
+    }
+    last_held(lists, world, end)
+}
+
+// Where a new mapping goes: behind the last that is held, or to the lowest free place where that is the last; 16 where none is free.
+pub fn find_free(lists: &Lists, world: u64) -> u64
+    ensures { λ r. ⌜ r ≡ spot (now (lists .entry)) world ⌝ }
+{
+    let n = used_of(lists, world);
+    if n < MOST_MAPPINGS {
+        return n;
+    }
+    lowest_free(lists, world)
 }
 
 // The lowest place that is held with exactly this start and size.
 pub fn find_exact(lists: &Lists, world: u64, virt: u64, size: u64) -> u64
     ensures { λ r. ⌜ r ≡ found (now (lists .entry)) world (Exact virt size) ⌝ }
 {
+    let end = reach_of(lists, world);
     let mut i = 0;
-    while i < MOST_MAPPINGS {
-        if place_of(lists, world, i).answers(Question::Exact { virt, size }) {
+    while i < end {
+        if raw_at(lists, world, i).answers(Question::Exact { virt, size }) {
             return i;
         }
         i += 1;
     }
-    i
+    MOST_MAPPINGS
 }
 
 // The lowest place that is held, with a physical range that meets this one.
 pub fn find_range(lists: &Lists, world: u64, start: u64, size: u64) -> u64
     ensures { λ r. ⌜ r ≡ found (now (lists .entry)) world (OnRange start size) ⌝ }
 {
+    let end = reach_of(lists, world);
     let mut i = 0;
-    while i < MOST_MAPPINGS {
-        if place_of(lists, world, i).answers(Question::OnRange { start, size }) {
+    while i < end {
+        if raw_at(lists, world, i).answers(Question::OnRange { start, size }) {
             return i;
         }
         i += 1;
     }
-    i
+    MOST_MAPPINGS
 }
 
 // The lowest place that is held, with a physical range that meets this run of pages.
 pub fn find_on_pages(lists: &Lists, world: u64, start: u64, count: u64) -> u64
     ensures { λ r. ⌜ r ≡ found (now (lists .entry)) world (OnPages start count) ⌝ }
 {
+    let end = reach_of(lists, world);
     let mut i = 0;
-    while i < MOST_MAPPINGS {
-        if place_of(lists, world, i).answers(Question::OnPages { start, count }) {
+    while i < end {
+        if raw_at(lists, world, i).answers(Question::OnPages { start, count }) {
             return i;
         }
         i += 1;
     }
-    i
+    MOST_MAPPINGS
 }
 
 // The lowest place that is held, with a virtual range that meets this one.
 pub fn find_touching(lists: &Lists, world: u64, start: u64, size: u64) -> u64
     ensures { λ r. ⌜ r ≡ found (now (lists .entry)) world (Touches start size) ⌝ }
 {
+    let end = reach_of(lists, world);
     let mut i = 0;
-    while i < MOST_MAPPINGS {
-        if place_of(lists, world, i).answers(Question::Touches { start, size }) {
+    while i < end {
+        if raw_at(lists, world, i).answers(Question::Touches { start, size }) {
             return i;
         }
         i += 1;
     }
-    i
+    MOST_MAPPINGS
 }
 
 // Whether a place is held that this mapping may not stand beside.
 pub fn any_clash(lists: &Lists, world: u64, m: Mapping) -> bool
     ensures { λ r. ⌜ r ≡ clashed (now (lists .entry)) world m ⌝ }
 {
+    let end = reach_of(lists, world);
     let mut i = 0;
-    while i < MOST_MAPPINGS {
-        if place_of(lists, world, i).is_clashing(m) {
+    while i < end {
+        if raw_at(lists, world, i).is_clashing(m) {
             return true;
         }
         i += 1;
@@ -161,10 +278,10 @@ pub fn decider(lists: &Lists, world: u64, address: u64) -> Mapping
     ensures { λ r. ⌜ r ≡ decider (now (lists .entry)) world address ⌝ }
 {
     let mut best = blank();
-    let mut i = MOST_MAPPINGS;
+    let mut i = reach_of(lists, world);
     while 0 < i {
         i -= 1;
-        best = place_of(lists, world, i).preferred(best, address);
+        best = raw_at(lists, world, i).preferred(best, address);
     }
     best
 }

@@ -1,22 +1,25 @@
 -- No place that the loop has passed clashes.
 use Prim.Native.Nat.{_-_}
-use Rattle.places.specs.Table.{places}
+use Rattle.places.specs.Table.{place-laws}
 use Rattle.places.specs.Found.{Clearing, clearing}
 use borrow.Author.Needs.{needs}
 use Rattle.places.proofs.any_clash.Statement.{statement}
 use Rattle.places.proofs.any_clash.Tie as tie
 
 abbrev Inv-loop : tie.InvT-loop
-Inv-loop lists world m i₀ i = Clearing lists world m i
+Inv-loop lists world m end i₀ i = Clearing lists world m end i
 
 abbrev μ-loop : tie.MeasureT-loop
-μ-loop lists world m i₀ i = places - i
+μ-loop lists world m end i₀ i = end - i
+
+reach-of-requires : tie.Need-reach-of-requires Inv-loop μ-loop
+reach-of-requires c κs = search needs
 
 loop-holds : tie.Need-loop-holds Inv-loop μ-loop
 loop-holds c = search clearing
 
-place-of-requires : tie.Need-place-of-requires Inv-loop μ-loop
-place-of-requires c κs = search needs
+raw-at-requires : tie.Need-raw-at-requires Inv-loop μ-loop
+raw-at-requires c κs = search (needs, place-laws)
 
 is-clashing-requires : tie.Need-is-clashing-requires Inv-loop μ-loop
 is-clashing-requires c κs = search needs
@@ -42,8 +45,9 @@ any-clash-spec =
     (tie.spec
     Inv-loop
     μ-loop
+    reach-of-requires
     loop-holds
-    place-of-requires
+    raw-at-requires
     is-clashing-requires
     returns
     add-i

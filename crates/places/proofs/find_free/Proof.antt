@@ -1,53 +1,20 @@
--- No place that the loop has passed answers.
-use Prim.Native.Nat.{_-_}
-use Rattle.places.specs.Table.{places}
-use Rattle.places.specs.Found.{Searching, searching}
-use Rattle.ranges.specs.declared.Question.the-variants.{Free}
+-- Each way out is a case of the definition.
+use Rattle.places.specs.Found.{spots}
 use borrow.Author.Needs.{needs}
 use Rattle.places.proofs.find_free.Statement.{statement}
 use Rattle.places.proofs.find_free.Tie as tie
 
-abbrev Inv-loop : tie.InvT-loop
-Inv-loop lists world i₀ i = Searching lists world Free i
+used-of-requires : tie.Need-used-of-requires
+used-of-requires c κs = search needs
 
-abbrev μ-loop : tie.MeasureT-loop
-μ-loop lists world i₀ i = places - i
+returns : tie.Need-returns
+returns c = search (needs, spots)
 
-loop-holds : tie.Need-loop-holds Inv-loop μ-loop
-loop-holds c = search searching
+lowest-free-requires : tie.Need-lowest-free-requires
+lowest-free-requires c κs = search needs
 
-place-of-requires : tie.Need-place-of-requires Inv-loop μ-loop
-place-of-requires c κs = search needs
-
-answers-requires : tie.Need-answers-requires Inv-loop μ-loop
-answers-requires c κs = search needs
-
-returns : tie.Need-returns Inv-loop μ-loop
-returns c = search searching
-
-add-i : tie.Need-add-i Inv-loop μ-loop
-add-i c = search needs
-
-loop-less : tie.Need-loop-less Inv-loop μ-loop
-loop-less c = search needs
-
-loop-again : tie.Need-loop-again Inv-loop μ-loop
-loop-again c = search searching
-
-returns-2 : tie.Need-returns-2 Inv-loop μ-loop
-returns-2 c = search searching
+returns-2 : tie.Need-returns-2
+returns-2 c = search (needs, spots)
 
 pub find-free-spec : {M : Type 1} → statement M
-find-free-spec =
-    tie.close
-    (tie.spec
-    Inv-loop
-    μ-loop
-    loop-holds
-    place-of-requires
-    answers-requires
-    returns
-    add-i
-    loop-less
-    loop-again
-    returns-2)
+find-free-spec = tie.close (tie.spec used-of-requires returns lowest-free-requires returns-2)
