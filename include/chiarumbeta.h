@@ -101,7 +101,7 @@ struct chiarumbeta {
     uint64_t saved[288];
     uint64_t powers[24];
     uint64_t turns[8];
-    uint64_t lists[256];
+    uint64_t lists[260];
     uint16_t book[128];
     uint8_t named[4096];
 };
@@ -129,7 +129,7 @@ enum chiarumbeta_counts { CHIARUMBETA_COUNTS_USED, CHIARUMBETA_COUNTS_PUT, CHIAR
 // ---- the functions of the archive, with each table lent by itself; those below pass them
 
 void chiarumbeta_lent_fresh(uint64_t setup[5], uint8_t named[4096], uint16_t book[128], uint64_t owners[256],
-                            uint64_t saved[288], uint64_t powers[24], uint64_t turns[8], uint64_t lists[256]);
+                            uint64_t saved[288], uint64_t powers[24], uint64_t turns[8], uint64_t lists[260]);
 uint64_t chiarumbeta_lent_fix_site(uint64_t setup[5], uint64_t owners[256], uint64_t base, uint64_t pages, uint64_t cores);
 uint64_t chiarumbeta_lent_enter_pairs(const uint64_t setup[5], uint16_t book[128], uint64_t lowest, uint64_t last,
                                       uint64_t kind, uint64_t handler);
@@ -137,15 +137,15 @@ uint64_t chiarumbeta_lent_name_pages(const uint64_t setup[5], uint64_t owners[25
                                      uint64_t lowest, uint64_t count, uint64_t to);
 uint64_t chiarumbeta_lent_call(uint64_t setup[5], uint64_t core, const uint64_t x[8], uint64_t told[7],
                                const uint16_t book[128], uint64_t owners[256], uint64_t saved[288], uint64_t powers[24],
-                               uint64_t turns[8], uint64_t lists[256]);
+                               uint64_t turns[8], uint64_t lists[260]);
 uint64_t chiarumbeta_lent_arrive(const uint64_t setup[5], uint64_t core, uint64_t saved[288], uint64_t powers[24],
                                  uint64_t turns[8]);
-uint64_t chiarumbeta_lent_where(const uint64_t lists[256], uint64_t world, uint64_t address, uint64_t leading[2]);
+uint64_t chiarumbeta_lent_where(const uint64_t lists[260], uint64_t world, uint64_t address, uint64_t leading[2]);
 uint64_t chiarumbeta_lent_owner(const uint64_t owners[256], uint64_t page);
 uint64_t chiarumbeta_lent_number(const uint64_t saved[288], uint64_t core, uint64_t world, uint64_t i);
 void chiarumbeta_lent_feed(const uint8_t *chunk, size_t chunk_length, uint8_t *out, size_t out_length, size_t counts[2],
                            uint64_t setup[5], uint8_t named[4096], uint16_t book[128], uint64_t owners[256],
-                           uint64_t saved[288], uint64_t powers[24], uint64_t turns[8], uint64_t lists[256]);
+                           uint64_t saved[288], uint64_t powers[24], uint64_t turns[8], uint64_t lists[260]);
 
 // ---- what a board does
 

@@ -7,17 +7,17 @@ use Prim.Native.Nat.{ℕ, _+_, _-_, _*_, _%_, _^_, _≤_, _<_}
 use native.Mathlib.Omega.{arith}
 use lib.Dec.{ltb, eqb}
 use lib.ListN.{length}
-use borrow.Author.Tests.{le-leb, lt-leb, ne-eqb, eq-eqb, eqb-true, eqb-false, ltb-true, ltb-false}
-use Rattle.rules.specs.Choice.{either, both-true, left-true, right-true, yes-or-no}
+use borrow.Author.Tests.{lt-ltb, le-ltb, le-leb, lt-leb, ne-eqb, eq-eqb, eqb-true, eqb-false, ltb-true, ltb-false}
+use Rattle.rules.specs.Choice.{pick, picked, passed, either, chosen, chosen-two, yes-or-no}
 use Rattle.rules.specs.Sizes.{worlds, pageSize, mostMappings}
 use Rattle.mapping.specs.Mapping.{onPages, anyOf, clash, isFull, hasExactly, meetsRun, touched, deciding, decidedBy, leading, leadOf, without}
 use Rattle.mapping.specs.Entries.{Inserted, without-missing}
 use Rattle.mapping.specs.Deciding.{deciding-low}
 use Rattle.ranges.specs.Question.{asksFree, asks, answers}
-use Rattle.tools.specs.Search.{first}
+use Rattle.tools.specs.Search.{first-is}
 use Rattle.mapping.specs.Places.{gathered, lowest, lowest-any, lowest-none, gathered-clash, heldAt, here-none, here-some, smallest-gathered, room-left, none-left, filled-in, removed, gathered-same, gathered-none, gathered-some}
 pub use Rattle.places.specs.Table.{unmapped, WholeLists, unmapped-whole, place}
-use Rattle.places.specs.Found.{found, spot, spot-reach, spot-free, spot-full, spot-same, clashed}
+use Rattle.places.specs.Found.{found, latest, latest-most, latest-answers, latest-fails, latest-same, spot, spot-reach, spot-free, spot-full, spot-same, clashed}
 use Rattle.places.specs.Decider.{decider}
 use Rattle.places.specs.Table.{blank, reach, reach-most, reach-no-world, place-out, stored, stored-whole, stored-at, stored-same, stored-within, stored-elsewhere, stored-no-world, stored-no-place, freed, freed-not, freed-whole, freed-same, freed-within, freed-elsewhere, unmapped-blank}
 use Rattle.ranges.specs.declared.Mapping.{Mapping}
@@ -35,9 +35,9 @@ held t w = gathered (place t w) 0 mostMappings
 pub holding : List ℕ → ℕ → Mapping → List ℕ
 holding t w m = stored t w (spot t w) m
 
--- the world's lowest place of exactly this start and size made free; nothing changes where there is none
+-- the world's last place of exactly this start and size made free; nothing changes where there is none
 pub released : List ℕ → ℕ → ℕ → ℕ → List ℕ
-released t w v s = freed t w (found t w (Exact v s))
+released t w v s = pick (ltb 0 (latest t w v s)) (freed t w (latest t w v s - 1)) t
 
 -- ---- the place found, and what the list of the held mappings says
 module _ (t : List ℕ) (w : ℕ) (q : Question) (o : asksFree q ≡ false) where
@@ -48,9 +48,21 @@ module _ (t : List ℕ) (w : ℕ) (q : Question) (o : asksFree q ≡ false) wher
       (λ n. n ∙ sym (lowest-none (place t w) q mostMappings o (ltb-false _ _ n)))
 
 module _ (t : List ℕ) (w k : ℕ) where
-  pub has-is : (v s : ℕ) → k ≡ found t w (Exact v s) → ltb k mostMappings ≡ hasExactly (held t w) v s
-  unfolding asksFree asks hasExactly
-  has-is v s e = rw e (found-any t w (Exact v s) refl)
+  pub has-is : (v s : ℕ) → k ≡ latest t w v s → ltb 0 k ≡ hasExactly (held t w) v s
+  unfolding asksFree asks hasExactly found
+  has-is v s e =
+      let n = latest t w v s in
+      let r = first-is (λ (i : ℕ). answers (Exact v s) (place t w i)) 0 mostMappings in
+      let i = found t w (Exact v s) in
+      let z : ltb 0 n ≡ ltb i mostMappings
+      = either (ltb 0 n)
+      (λ y. let h = ltb-true 0 n y in
+      y ∙ sym (either (ltb i mostMappings) (λ q. q)
+      (λ q. absurd (yes-or-no _ (latest-answers t w v s h) (r .before (n - 1) (omega arith) (omega (arith, latest-most t w v s, ltb-false i mostMappings q)))))))
+      (λ y. let h = ltb-false 0 n y in
+      y ∙ sym (either (ltb i mostMappings)
+      (λ q. let l = ltb-true i mostMappings q in absurd (yes-or-no _ (r .passes (omega arith)) (latest-fails t w v s i (omega arith) l))) (λ q. q))) in
+      rw e (z ∙ found-any t w (Exact v s) refl)
 
   pub meets-is : (a n : ℕ) → k ≡ found t w (OnPages a n) → ltb k mostMappings ≡ meetsRun (held t w) a n
   unfolding asksFree asks meetsRun
@@ -78,9 +90,13 @@ module _ (t : List ℕ) (w k : ℕ) where
   unfolding holding
   holding-is m t′ e f = rw (← e) f
 
-  pub released-is : (v s : ℕ) (t′ : List ℕ) → k ≡ found t w (Exact v s) → t′ ≡ freed t w k → t′ ≡ released t w v s
+  pub released-not : (v s : ℕ) → k ≡ latest t w v s → k ≡ 0 → t ≡ released t w v s
   unfolding released
-  released-is v s t′ e f = rw (← e) f
+  released-not v s e h = passed _ _ _ _ (le-ltb 0 (latest t w v s) (omega arith)) refl
+
+  pub released-is : (v s : ℕ) (t′ : List ℕ) → k ≡ latest t w v s → (k ≡ 0 → ⊥) → t′ ≡ freed t w (k - 1) → t′ ≡ released t w v s
+  unfolding released
+  released-is v s t′ e d f = picked _ _ _ _ (lt-ltb 0 (latest t w v s) (omega arith)) (f ∙ rw e)
 
 -- ---- a place that clashes is one of the list that does
 module _ (t : List ℕ) (w : ℕ) (m : Mapping) (r : Bool) (e : r ≡ clashed t w m) where
@@ -137,7 +153,7 @@ module _ (l : List Mapping) (x : ℕ) (d : Decider) (e : d ≡ decidedBy (decidi
 
 pub ruleset verdict-laws = (clash-yes, clash-no, full-yes, full-no)
 
-pub ruleset list-laws = (has-is, meets-is, meets-bytes, touched-is, decides-nobody, decides-by, leads-nowhere, leads-from, leads-to, holding-is, released-is)
+pub ruleset list-laws = (has-is, meets-is, meets-bytes, touched-is, decides-nobody, decides-by, leads-nowhere, leads-from, leads-to, holding-is, released-not, released-is)
 
 -- ---- for the crates above
 
@@ -182,31 +198,37 @@ module _ (t : List ℕ) (w v s : ℕ) where
   unfolding hasExactly anyOf
   none-exact = refl
 
-  pub released-whole : WholeLists t → WholeLists (released t w v s)
+  -- it is a place made free, or nothing changes
+  released-cases : (P : List ℕ → Type 0) → (0 < latest t w v s → P (freed t w (latest t w v s - 1))) → (latest t w v s ≤ 0 → P t) → P (released t w v s)
   unfolding released
-  released-whole h = freed-whole t w (found t w (Exact v s)) h
+  released-cases P f p = chosen P (ltb 0 (latest t w v s)) _ _ (λ y. f (ltb-true 0 (latest t w v s) y)) (λ n. p (ltb-false 0 (latest t w v s) n))
+
+  pub released-whole : WholeLists t → WholeLists (released t w v s)
+  released-whole h = released-cases WholeLists (λ k. freed-whole t w (latest t w v s - 1) h) (λ k. h)
 
   pub released-other : (u : ℕ) → (u ≡ w → ⊥) → held (released t w v s) u ≡ held t u
-  unfolding released held
+  unfolding held
   released-other u d =
-      let i = found t w (Exact v s) in gathered-same (place (freed t w i) u) (place t u) 0 mostMappings (λ j h l. freed-elsewhere t w i u j d)
+      let i = latest t w v s - 1 in
+      released-cases (λ (r : List ℕ). held r u ≡ held t u)
+      (λ k. gathered-same (place (freed t w i) u) (place t u) 0 mostMappings (λ j h l. freed-elsewhere t w i u j d)) (λ k. refl)
 
   -- where the world holds no such mapping, nothing changes
   pub released-none : hasExactly (held t w) v s ≡ false → released t w v s ≡ t
-  unfolding released
   released-none e =
-      let i = found t w (Exact v s) in freed-not t w i (omega (arith, reach-most t w, ltb-false i mostMappings (has-is t w i v s refl ∙ e)))
+      released-cases (λ (r : List ℕ). r ≡ t) (λ k. absurd (yes-or-no _ (lt-ltb 0 (latest t w v s) k) (has-is t w (latest t w v s) v s refl ∙ e))) (λ k. refl)
 
-  -- the first mapping of exactly this start and size is taken out
+  -- the last mapping of exactly this start and size is taken out
   pub released-takes : WholeLists t → held (released t w v s) w ≡ without (held t w) v s
-  unfolding released held found lowest
+  unfolding held
   released-takes h =
-      let i = lowest (place t w) (Exact v s) mostMappings in
-      either (hasExactly (held t w) v s)
-      (λ y. let l : i < mostMappings = ltb-true _ _ (has-is t w i v s refl ∙ y) in
-      let b : place (freed t w i) w i ≡ blank = freed-same t w i h in
-      removed (place t w) (place (freed t w i) w) mostMappings v s l (λ j e. freed-within t w i h j e) (rw b))
-      (λ n. rw (released-none n, without-missing v s (held t w) n))
+      let n = latest t w v s in
+      let i = n - 1 in
+      released-cases (λ (r : List ℕ). held r w ≡ without (held t w) v s)
+      (λ k. let b : place (freed t w i) w i ≡ blank = freed-same t w i h in
+      removed (place t w) (place (freed t w i) w) mostMappings v s i (omega (arith, latest-most t w v s)) (latest-answers t w v s k)
+      (λ j l u. latest-fails t w v s j (omega arith) u) (λ j e. freed-within t w i h j e) (rw b))
+      (λ k. sym (without-missing v s (held t w) (sym (has-is t w n v s refl) ∙ le-ltb 0 n k)))
 
 -- ---- two tables with the same mappings of a world, place by place. That the lists are the same would not do: where a mapping goes depends on the places
 abbrev pub SamePlaces : ℕ → List ℕ → List ℕ → Type 0
@@ -218,17 +240,13 @@ unfolding holding
 holding-places t w u m d i = stored-elsewhere t w (spot t w) m u i d
 
 pub released-places : (t : List ℕ) (w u v s : ℕ) → (u ≡ w → ⊥) → SamePlaces u (released t w v s) t
-unfolding released
-released-places t w u v s d i = freed-elsewhere t w (found t w (Exact v s)) u i d
+released-places t w u v s d i =
+    released-cases t w v s (λ (r : List ℕ). place r u i ≡ place t u i) (λ k. freed-elsewhere t w (latest t w v s - 1) u i d) (λ k. refl)
 
 module _ (w : ℕ) (t u : List ℕ) (same : SamePlaces w t u) where
   pub held-same : held t w ≡ held u w
   unfolding held
   held-same = gathered-same (place t w) (place u w) 0 mostMappings (λ i h l. same i)
-
-  found-same : (q : Question) → found t w q ≡ found u w q
-  unfolding found
-  found-same q = λ i. first (λ k. answers q (same k i)) 0 mostMappings
 
   module _ (a : WholeLists t) (b : WholeLists u) where
     -- one mapping put at the place where it goes in both
@@ -261,9 +279,15 @@ module _ (w : ℕ) (t u : List ℕ) (same : SamePlaces w t u) where
         either (eqb w v) (λ y. let e : v ≡ w = sym (eqb-true w v y) in rw e (held-both m))
         (λ n j. let d = eqb-false w v n in stored-elsewhere t v (spot t v) m w j d ∙ same j ∙ sym (stored-elsewhere u v (spot u v) m w j d))
 
-    pub released-both : (v x s : ℕ) → SamePlaces w (released t v x s) (released u v x s)
+    released-here : (x s : ℕ) → SamePlaces w (released t w x s) (released u w x s)
     unfolding released
+    released-here x s j =
+        let e : latest t w x s ≡ latest u w x s = latest-same t u w x s same in
+        let n = latest u w x s in
+        rw e
+        (chosen-two (λ (a b : List ℕ). place a w j ≡ place b w j) (ltb 0 n) (freed t w (n - 1)) t (freed u w (n - 1)) u (λ y. freed-both (n - 1) j) (λ z. same j))
+
+    pub released-both : (v x s : ℕ) → SamePlaces w (released t v x s) (released u v x s)
     released-both v x s =
-        either (eqb w v) (λ y. let e : v ≡ w = sym (eqb-true w v y) in rw (e, found-same (Exact x s)) (freed-both (found u w (Exact x s))))
-        (λ n j. let d = eqb-false w v n in
-        freed-elsewhere t v (found t v (Exact x s)) w j d ∙ same j ∙ sym (freed-elsewhere u v (found u v (Exact x s)) w j d))
+        either (eqb w v) (λ y. let e : v ≡ w = sym (eqb-true w v y) in rw e (released-here x s))
+        (λ n j. let d = eqb-false w v n in released-places t v w x s d j ∙ same j ∙ sym (released-places u v w x s d j))

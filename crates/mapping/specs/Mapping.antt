@@ -67,10 +67,10 @@ unfoldable pub decidedBy : Option Mapping → Decider
 decidedBy none = Nobody
 decidedBy (some m) = By m
 
--- the list with the first mapping of exactly this start and size taken out
+-- the list with the last mapping of exactly this start and size taken out
 unfoldable pub without : List Mapping → ℕ → ℕ → List Mapping
 without [] v s = []
-without (m ∷ l) v s = pick (exact v s m) l (m ∷ without l v s)
+without (m ∷ l) v s = pick (hasExactly l v s) (m ∷ without l v s) (pick (exact v s m) l (m ∷ l))
 
 -- where an address leads by the mapping that decides it; the sum is cut to 64 bits, which in the lists of a run cuts nothing (`lead-exact` in Once)
 unfoldable pub leading : ℕ → Option Mapping → Lead

@@ -82,15 +82,18 @@ pub fn hold(lists: &mut Lists, world: u64, m: Mapping)
 pub fn has(lists: &Lists, world: u64, virt: u64, size: u64) -> bool
     ensures { λ r. ⌜ r ≡ hasExactly (held (now (lists .entry)) world) virt size ⌝ }
 {
-    places::find_exact(lists, world, virt, size) < MOST_MAPPINGS
+    0 < places::latest_exact(lists, world, virt, size)
 }
 
-// Frees the world's lowest place with exactly this start and size. Where there is none, nothing changes.
+// Frees the world's last place with exactly this start and size. Where there is none, nothing changes.
 pub fn release(lists: &mut Lists, world: u64, virt: u64, size: u64)
     ensures { λ r. ⌜ now (lists .exit) ≡ released (now (lists .entry)) world virt size ⌝ }
 {
-    let i = places::find_exact(lists, world, virt, size);
-    places::free(lists, world, i);
+    let n = places::latest_exact(lists, world, virt, size);
+    if n == 0 {
+        return;
+    }
+    places::free(lists, world, n - 1);
 }
 
 // Whether `count` pages from the address `start` on meet the physical range of a mapping of the world. A count past any

@@ -4,15 +4,17 @@ use mathlib.Core.Bool.{Bool, true, false}
 use mathlib.Core.List.{List}
 use Prim.Native.Nat.{ℕ, zero, suc, _+_, _-_, _≤_, _<_}
 use native.Mathlib.Omega.{arith}
-use lib.Dec.{ltb}
-use borrow.Author.Tests.{lt-ltb, le-ltb, ltb-true, ltb-false, eq-eqb, ne-eqb}
-use Rattle.rules.specs.Choice.{pick, picked, passed, pick-yes, pick-no, either, chosen, neither}
+use lib.Dec.{ltb, eqb}
+use borrow.Author.Tests.{lt-ltb, le-ltb, ltb-true, ltb-false, eq-eqb, ne-eqb, eqb-true}
+use Rattle.rules.specs.Choice.{pick, picked, passed, pick-yes, pick-no, either, chosen, neither, right-false}
+use Rattle.rules.specs.Sizes.{worlds}
+use Rattle.ranges.specs.Mapping.{exact}
 use Rattle.tools.specs.Search.{first, first-is, first-goes, first-stops, first-ends, any, any-goes, any-stops}
 use Rattle.ranges.specs.Question.{isFree, asksFree, asks, answers, clashing}
 use Rattle.ranges.specs.declared.Mapping.{Mapping}
 use Rattle.ranges.specs.declared.Question.{Question}
-use Rattle.ranges.specs.declared.Question.the-variants.{Free}
-use Rattle.places.specs.Table.{places, place, blank, reach, raw, behind, behind-last, behind-held, used, used-reach, used-free, used-same, reach-most, place-out, place-asked}
+use Rattle.ranges.specs.declared.Question.the-variants.{Free, Exact}
+use Rattle.places.specs.Table.{places, place, blank, reach, raw, upto, upto-below, upto-here, upto-most, upto-fails, upto-passes, upto-past, upto-same, behind, behind-last, behind-held, used, used-reach, used-free, used-same, reach-most, reach-world, place-out, place-asked}
 
 -- what is asked of each place
 abbrev pub asked : List ℕ → ℕ → Question → ℕ → Bool
@@ -21,6 +23,10 @@ asked t w q i = answers q (place t w i)
 -- the lowest place of the world that answers, or 16
 unfoldable pub found : List ℕ → ℕ → Question → ℕ
 found t w q = first (asked t w q) 0 places
+
+-- how many places there are up to the last that is held with exactly this start and size: 0 where none is
+unfoldable pub latest : List ℕ → ℕ → ℕ → ℕ → ℕ
+latest t w v s = upto (asked t w (Exact v s)) places
 
 -- where a new mapping goes: behind the last that is held; where that is the last place, to the lowest that is free; 16 where none is
 unfoldable pub spot : List ℕ → ℕ → ℕ
@@ -128,7 +134,7 @@ module _ (t : List ℕ) (w n k : ℕ) (s : Lowering t w n k) where
         sym (s .rest ∙ (rw z at (behind-held (raw t w) (k - 1) (rw (← read) (ne-eqb _ _ f)))))
 
   pub lowering-ends : k ≤ 0 → 0 ≡ behind (raw t w) n
-  unfolding behind
+  unfolding upto
   lowering-ends h = let z : k ≡ 0 = omega arith in sym (s .rest ∙ rw z)
 
 pub ruleset lowering = (lowering-starts, lowering-goes, lowering-stops, lowering-ends)
@@ -216,3 +222,90 @@ module _ (t : List ℕ) (w : ℕ) (n : Mapping) (e i : ℕ) (s : Clearing t w n 
       (λ j l. let z : reach t w ≤ j = omega (arith, s .is-reach) in rw (place-out t w j z) (blank-clashes n)))
 
 pub ruleset clearing = (clearing-starts, clearing-goes, clearing-stops, clearing-ends)
+
+-- ---- the last that is held with exactly this start and size: e is the world's reach, and those from n on do not answer
+pub record Latest (t : List ℕ) (w v s e n : ℕ) : Type 0 where
+  pub some : s ≡ 0 → ⊥
+  pub most : n ≤ e
+  pub is-reach : e ≡ reach t w
+  pub rest : latest t w v s ≡ upto (asked t w (Exact v s)) n
+
+module _ (t : List ℕ) (w v s : ℕ) where
+  -- no held mapping has the size 0
+  empty-exact : s ≡ 0 → (m : Mapping) → answers (Exact v s) m ≡ false
+  unfolding answers asks asksFree exact
+  empty-exact e m = either (isFree m) (λ y. pick-yes (isFree m) _ _ y) (λ n. pick-no (isFree m) _ _ n ∙ right-false (eqb (m .virt) v) (eqb (m .size) s) (rw e n))
+
+  pub latest-empty : s ≡ 0 → 0 ≡ latest t w v s
+  unfolding latest upto
+  latest-empty e = sym (upto-past (asked t w (Exact v s)) 0 places (λ j l. empty-exact e (place t w j)))
+
+  module _ (e : ℕ) where
+    pub latest-starts : (s ≡ 0 → ⊥) → e ≡ reach t w → Latest t w v s e e
+    unfolding latest asksFree
+    latest-starts d f =
+        let z : places - e + e ≡ places = omega (arith, f, reach-most t w) in
+        let p = asked t w (Exact v s) in
+        let b = upto-past p e (places - e) (λ j h. rw (place-out t w j (rw f at h)) (blank-answers (Exact v s))) in
+        record { some = d; most = omega arith; is-reach = f; rest = (rw z at b) }
+
+    module _ (n : ℕ) (l : Latest t w v s e n) where
+      pub latest-world : 0 < n → w < worlds
+      latest-world h = let k : 0 < e = omega (arith, l .most) in reach-world t w 0 (rw (l .is-reach) at k)
+
+      pub latest-place : 0 < n → n - 1 < places
+      latest-place h = omega (arith, l .most, l .is-reach, reach-most t w)
+
+      module _ (m : Mapping) (r : Bool) (h : 0 < n) (read : m ≡ raw t w (n - 1)) (said : r ≡ exact v s m) where
+        -- an exact mapping of such a size is held
+        exact-answers : answers (Exact v s) m ≡ exact v s m
+        unfolding answers asks asksFree exact
+        exact-answers =
+            either (isFree m)
+            (λ y. pick-yes (isFree m) _ _ y ∙ sym (right-false (eqb (m .virt) v) (eqb (m .size) s) (rw (eqb-true (m .size) 0 y) (ne-eqb 0 s (λ q. l .some (sym q))))))
+            (λ z. pick-no (isFree m) _ _ z)
+
+        answers-so : (b : Bool) → r ≡ b → asked t w (Exact v s) (n - 1) ≡ b
+        answers-so b f =
+            let k : n - 1 < e = omega (arith, l .most) in
+            place-asked t w (n - 1) (answers (Exact v s)) (free-answers (Exact v s)) (rw (l .is-reach) at k) ∙ rw (← read) (exact-answers ∙ sym said ∙ f)
+
+        pub latest-goes : r ≡ false → Latest t w v s e (n - 1)
+        latest-goes f =
+            let z : suc (n - 1) ≡ n = omega arith in
+            record {
+              some = l .some;
+              most = omega (arith, l .most);
+              is-reach = l .is-reach;
+              rest = l .rest ∙ (rw z at (upto-below (asked t w (Exact v s)) (n - 1) (answers-so false f)));
+            }
+
+        pub latest-stops : r ≡ true → n ≡ latest t w v s
+        latest-stops f =
+            let z : suc (n - 1) ≡ n = omega arith in sym (l .rest ∙ (rw z at (upto-here (asked t w (Exact v s)) (n - 1) (answers-so true f))))
+
+      pub latest-ends : n ≤ 0 → 0 ≡ latest t w v s
+      unfolding upto
+      latest-ends h = let z : n ≡ 0 = omega arith in sym (l .rest ∙ rw z)
+
+pub ruleset latests = (latest-empty, latest-starts, latest-goes, latest-stops, latest-ends)
+
+pub ruleset latest-places = (latest-world, latest-place)
+
+-- ---- what it is
+module _ (t : List ℕ) (w v s : ℕ) where
+  pub latest-most : latest t w v s ≤ places
+  unfolding latest
+  latest-most = upto-most (asked t w (Exact v s)) places
+
+  pub latest-answers : 0 < latest t w v s → asked t w (Exact v s) (latest t w v s - 1) ≡ true
+  unfolding latest
+  latest-answers h = upto-passes (asked t w (Exact v s)) places h
+
+  pub latest-fails : (j : ℕ) → latest t w v s ≤ j → j < places → asked t w (Exact v s) j ≡ false
+  unfolding latest
+  latest-fails j h l = upto-fails (asked t w (Exact v s)) places j h l
+
+pub latest-same : (t u : List ℕ) (w v s : ℕ) → ((i : ℕ) → place t w i ≡ place u w i) → latest t w v s ≡ latest u w v s
+unfolding latest
+latest-same t u w v s same = upto-same (asked t w (Exact v s)) (asked u w (Exact v s)) places (λ j l. rw (same j))

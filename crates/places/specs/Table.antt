@@ -1,15 +1,15 @@
 -- The table: four numbers for each of sixteen places of four worlds, and behind them each world's reach: no place from there on is held.
 -- Its layout is known in this file alone: the laws say the rest.
 use mathlib.Core.Path.{_≡_, refl, sym, ap, _∙_}
-use mathlib.Core.Bool.{Bool, true, false, _&&_}
+use mathlib.Core.Bool.{Bool, true, false, not, _&&_}
 use mathlib.Core.List.{List}
 use Prim.Native.Nat.{ℕ, zero, suc, _+_, _-_, _*_, _≤_, _<_}
 use native.Mathlib.Omega.{arith}
 use lib.Dec.{ltb, leb, eqb}
 use lib.ListN.{length, getD, set, replicate, length-set, length-replicate, getD-replicate}
 use lib.Seq.{getD-set-same, getD-set-other}
-use borrow.Author.Tests.{lt-ltb, le-ltb, ltb-true, ltb-false, le-leb, lt-leb, leb-true, eq-eqb, ne-eqb, eqb-true}
-use Rattle.rules.specs.Choice.{pick, picked, passed, pick-yes, pick-no, either, chosen, both-true, left-true, right-true, left-false, right-false, yes-or-no}
+use borrow.Author.Tests.{lt-ltb, le-ltb, ltb-true, ltb-false, le-leb, lt-leb, leb-true, eq-eqb, ne-eqb, eqb-true, eqb-false}
+use Rattle.rules.specs.Choice.{pick, picked, passed, pick-yes, pick-no, either, chosen, both-true, left-true, right-true, left-false, right-false, not-true, not-false, yes-or-no}
 use Rattle.rules.specs.Sizes.{worlds, mostMappings}
 use Rattle.ranges.specs.Question.{isFree}
 use Rattle.ranges.specs.declared.Mapping.{Mapping}
@@ -46,10 +46,14 @@ capped n = pick (ltb places n) places n
 unfoldable pub kept : Mapping → Mapping
 kept m = pick (isFree m) blank m
 
+-- n numbers without those at their end that do not pass: behind the last that does, or 0
+unfoldable pub upto : (ℕ → Bool) → ℕ → ℕ
+upto p zero = 0
+upto p (suc k) = pick (p k) (suc k) (upto p k)
+
 -- n places without the free ones at their end
-unfoldable pub behind : (ℕ → Mapping) → ℕ → ℕ
-behind f zero = 0
-behind f (suc k) = pick (isFree (f k)) (behind f k) (suc k)
+abbrev pub behind : (ℕ → Mapping) → ℕ → ℕ
+behind f n = upto (λ (k : ℕ). not (isFree (f k))) n
 
 -- the reach of a world, with a place held that is within it or the next
 unfoldable pub grown : ℕ → ℕ → ℕ
@@ -254,43 +258,57 @@ module _ (t : List ℕ) (w i : ℕ) where
 
 pub ruleset store-laws = (stored-no-world, stored-no-place, stored-past, stored-here, freed-past, freed-here)
 
+-- ---- the last that passes
+module _ (p : ℕ → Bool) where
+  pub upto-none : upto p 0 ≡ 0
+  unfolding upto
+  upto-none = refl
+
+  pub upto-here : (k : ℕ) → p k ≡ true → upto p (suc k) ≡ suc k
+  unfolding upto
+  upto-here k e = pick-yes (p k) (suc k) (upto p k) e
+
+  pub upto-below : (k : ℕ) → p k ≡ false → upto p (suc k) ≡ upto p k
+  unfolding upto
+  upto-below k e = pick-no (p k) (suc k) (upto p k) e
+
+  pub upto-most : (n : ℕ) → upto p n ≤ n
+  upto-most zero = rw upto-none (omega arith)
+  upto-most (suc k) = either (p k) (λ y. rw (upto-here k y) (omega arith)) (λ z. rw (upto-below k z) (omega (arith, upto-most k)))
+
+  -- those behind it do not pass, and it does
+  pub upto-fails : (n j : ℕ) → upto p n ≤ j → j < n → p j ≡ false
+  upto-fails zero j h l = absurd (omega arith)
+  upto-fails (suc k) j h l =
+      either (p k) (λ y. let e = upto-here k y in absurd (omega arith))
+      (λ z. either (eqb j k) (λ q. rw (eqb-true j k q) z) (λ q. let d = eqb-false j k q in upto-fails k j (rw (upto-below k z) at h) (omega arith)))
+
+  pub upto-passes : (n : ℕ) → 0 < upto p n → p (upto p n - 1) ≡ true
+  upto-passes zero h = let e = upto-none in absurd (omega arith)
+  upto-passes (suc k) h =
+      either (p k) (λ y. let e = upto-here k y in let z : suc k - 1 ≡ k = omega arith in rw (e, z) y)
+      (λ z. let e = upto-below k z in rw e (upto-passes k (rw e at h)))
+
+  -- those from n on do not pass
+  pub upto-past : (n k : ℕ) → ((j : ℕ) → n ≤ j → p j ≡ false) → upto p (k + n) ≡ upto p n
+  upto-past n zero h = let z : 0 + n ≡ n = omega arith in rw z
+  upto-past n (suc k) h = let z : suc k + n ≡ suc (k + n) = omega arith in rw z (upto-below (k + n) (h (k + n) (omega arith)) ∙ upto-past n k h)
+
+pub upto-same : (p q : ℕ → Bool) (n : ℕ) → ((j : ℕ) → j < n → p j ≡ q j) → upto p n ≡ upto q n
+unfolding upto
+upto-same p q zero h = refl
+upto-same p q (suc k) h = rw (h k (omega arith), upto-same p q k (λ j l. h j (omega arith)))
+
 -- ---- the free ones at the end
 module _ (f : ℕ → Mapping) where
-  pub behind-most : (n : ℕ) → behind f n ≤ n
-  unfolding behind
-  behind-most zero = omega arith
-  behind-most (suc k) = chosen (λ (r : ℕ). r ≤ suc k) (isFree (f k)) _ _ (λ y. omega (arith, behind-most k)) (λ z. omega arith)
-
   pub behind-free : (n j : ℕ) → behind f n ≤ j → j < n → isFree (f j) ≡ true
-  unfolding behind
-  behind-free zero j h l = absurd (omega arith)
-  behind-free (suc k) j h l =
-      either (isFree (f k))
-      (λ y. either (eqb j k) (λ q. rw (eqb-true j k q) y)
-      (λ q. behind-free k j (rw (pick-yes (isFree (f k)) (behind f k) (suc k) y) at h) (apart q)))
-      (λ z. let e = pick-no (isFree (f k)) (behind f k) (suc k) z in absurd (omega arith))
-    where
-      apart : eqb j k ≡ false → j < k
-      apart q = either (ltb j k) (ltb-true j k) (λ n. let s : j ≡ k = omega (arith, ltb-false j k n) in absurd (yes-or-no _ (eq-eqb j k s) q))
+  behind-free n j h l = either (isFree (f j)) (λ y. y) (λ z. absurd (yes-or-no _ (not-true (isFree (f j)) z) (upto-fails (λ (k : ℕ). not (isFree (f k))) n j h l)))
 
   pub behind-last : (k : ℕ) → isFree (f k) ≡ true → behind f (suc k) ≡ behind f k
-  unfolding behind
-  behind-last k e = pick-yes (isFree (f k)) (behind f k) (suc k) e
+  behind-last k e = upto-below (λ (k : ℕ). not (isFree (f k))) k (not-false (isFree (f k)) e)
 
   pub behind-held : (k : ℕ) → isFree (f k) ≡ false → behind f (suc k) ≡ suc k
-  unfolding behind
-  behind-held k e = pick-no (isFree (f k)) (behind f k) (suc k) e
-
-pub behind-same : (f g : ℕ → Mapping) (n : ℕ) → ((j : ℕ) → j < n → isFree (f j) ≡ isFree (g j)) → behind f n ≡ behind g n
-unfolding behind
-behind-same f g zero h = refl
-behind-same f g (suc k) h = rw (h k (omega arith), behind-same f g k (λ j l. h j (omega arith)))
-
-pub behind-past : (f : ℕ → Mapping) (n k : ℕ) → ((j : ℕ) → n ≤ j → isFree (f j) ≡ true) → behind f (k + n) ≡ behind f n
-unfolding behind
-behind-past f n zero h = let z : 0 + n ≡ n = omega arith in rw z
-behind-past f n (suc k) h =
-    let z : suc k + n ≡ suc (k + n) = omega arith in rw z (pick-yes _ _ _ (h (k + n) (omega arith)) ∙ behind-past f n k h)
+  behind-held k e = upto-here (λ (k : ℕ). not (isFree (f k))) k (not-true (isFree (f k)) e)
 
 -- ---- what stands at a place after it was written
 module _ (t : List ℕ) (a : ℕ) (m : Mapping) where
@@ -456,7 +474,7 @@ module _ (t : List ℕ) (w i : ℕ) where
   left = behind (raw cleared w) (reach t w)
 
   left-most : left ≤ reach t w
-  left-most = behind-most (raw cleared w) (reach t w)
+  left-most = upto-most (λ (k : ℕ). not (isFree (raw cleared w k))) (reach t w)
 
   freed-cases : (P : List ℕ → Type 0) → (i < reach t w → P (resized cleared w left)) → (reach t w ≤ i → P t) → P (freed t w i)
   unfolding freed
@@ -532,17 +550,19 @@ module _ (t : List ℕ) (w : ℕ) where
   used-is =
       let n = reach t w in
       let z : places - n + n ≡ places = omega (arith, reach-most t w) in
-      sym (behind-same (place t w) (raw t w) n (λ j h. place-free t w j h)) ∙ sym ((rw z at (behind-past (place t w) n (places - n) (λ j h. rw (place-out t w j h)))))
+      let a = upto-same (λ (k : ℕ). not (isFree (place t w k))) (λ (k : ℕ). not (isFree (raw t w k))) n (λ j h. rw (place-free t w j h)) in
+      let b = upto-past (λ (k : ℕ). not (isFree (place t w k))) n (places - n) (λ j h. rw (place-out t w j h)) in
+      sym a ∙ sym (rw z at b)
 
   pub used-none : (n : ℕ) → n ≡ reach t w → n ≡ 0 → 0 ≡ used t w
-  unfolding behind
+  unfolding upto
   used-none n e h = let z : reach t w ≡ 0 = sym e ∙ h in (rw z at used-is)
 
   pub used-by : (n k : ℕ) → n ≡ reach t w → k ≡ behind (raw t w) n → k ≡ used t w
   used-by n k e h = h ∙ rw e used-is
 
   pub used-reach : used t w ≤ reach t w
-  used-reach = rw (← used-is) (behind-most (raw t w) (reach t w))
+  used-reach = rw (← used-is) (upto-most (λ (k : ℕ). not (isFree (raw t w k))) (reach t w))
 
   pub used-free : (j : ℕ) → used t w ≤ j → j < places → isFree (place t w j) ≡ true
   unfolding used
@@ -550,6 +570,6 @@ module _ (t : List ℕ) (w : ℕ) where
 
 pub used-same : (t u : List ℕ) (w : ℕ) → ((i : ℕ) → place t w i ≡ place u w i) → used t w ≡ used u w
 unfolding used
-used-same t u w same = behind-same (place t w) (place u w) places (λ j l. rw (same j))
+used-same t u w same = upto-same (λ (k : ℕ). not (isFree (place t w k))) (λ (k : ℕ). not (isFree (place u w k))) places (λ j l. rw (same j))
 
 pub ruleset uses = (used-none, used-by)

@@ -2,9 +2,9 @@
 // gives a free one and writing changes nothing. No search looks past the last place that is held.
 ghost use mathlib.Core.Path.{_≡_};
 ghost use Prim.Native.Nat.{_≤_, _<_};
-ghost use Rattle.ranges.specs.declared.Question.the-variants.{Exact, OnPages, OnRange, Touches, Free};
+ghost use Rattle.ranges.specs.declared.Question.the-variants.{Free, OnPages, OnRange, Touches};
 ghost use Rattle.places.specs.Table.{blank, unmapped, reach, raw, written, resized, behind, grown, used, place, stored, freed};
-ghost use Rattle.places.specs.Found.{found, spot, clashed};
+ghost use Rattle.places.specs.Found.{found, latest, spot, clashed};
 ghost use Rattle.places.specs.Decider.{decider};
 use ranges::Mapping;
 use ranges::Question;
@@ -197,19 +197,22 @@ pub fn find_free(lists: &Lists, world: u64) -> u64
     lowest_free(lists, world)
 }
 
-// The lowest place that is held with exactly this start and size.
-pub fn find_exact(lists: &Lists, world: u64, virt: u64, size: u64) -> u64
-    ensures { λ r. ⌜ r ≡ found (now (lists .entry)) world (Exact virt size) ⌝ }
+// How many places there are up to the last that is held with exactly this start and size: 0 where none is. What was made last is
+// looked at first.
+pub fn latest_exact(lists: &Lists, world: u64, virt: u64, size: u64) -> u64
+    ensures { λ r. ⌜ r ≡ latest (now (lists .entry)) world virt size ⌝ }
 {
-    let end = reach_of(lists, world);
-    let mut i = 0;
-    while i < end {
-        if raw_at(lists, world, i).answers(Question::Exact { virt, size }) {
-            return i;
-        }
-        i += 1;
+    if size == 0 {
+        return 0;
     }
-    MOST_MAPPINGS
+    let mut n = reach_of(lists, world);
+    while 0 < n {
+        if raw_at(lists, world, n - 1).is_exact(virt, size) {
+            return n;
+        }
+        n -= 1;
+    }
+    0
 }
 
 // The lowest place that is held, with a physical range that meets this one.

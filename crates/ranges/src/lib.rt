@@ -115,7 +115,7 @@ impl Question {
 
 impl Mapping {
     // Whether it has exactly this start and size.
-    fn is_exact(self, virt: u64, size: u64) -> bool
+    pub fn is_exact(self, virt: u64, size: u64) -> bool
         ensures { λ r. ⌜ r ≡ exact virt size self ⌝ }
     {
         if self.virt != virt {
