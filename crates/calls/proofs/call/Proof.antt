@@ -31,11 +31,11 @@ read-call-requires-2 c κs = search needs
 judge-requires : tie.Need-judge-requires
 judge-requires c κs = search needs
 
-write-answer-requires : tie.Need-write-answer-requires
-write-answer-requires c κs = search needs
-
 do-deed-requires : tie.Need-do-deed-requires
 do-deed-requires c κs = search needs
+
+write-answer-requires : tie.Need-write-answer-requires
+write-answer-requires c κs = search needs
 
 returns-2 : tie.Need-returns-2
 returns-2 c = search steps
@@ -53,6 +53,6 @@ call-spec =
     save-numbers-requires-2
     read-call-requires-2
     judge-requires
-    write-answer-requires
     do-deed-requires
+    write-answer-requires
     returns-2)
