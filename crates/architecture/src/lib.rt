@@ -1,6 +1,7 @@
 // Handler 0: the version, and which of these calls there are.
 ghost use mathlib.Core.Path.{_≡_};
 ghost use Rattle.judgements.specs.Judge.{affirmed, oneOf, architectureCalls, asked, featuring, architecture};
+ghost use Rattle.judgements.specs.Read.{argsBy};
 use identifiers::Identifier;
 use judgements::Answer;
 use judgements::Args;
@@ -9,6 +10,7 @@ use judgements::Judged;
 use judgements::grant;
 use judgements::names::FEATURES;
 use judgements::names::VERSION;
+use judgements::read_args;
 use judgements::refuse;
 use rules::Reason;
 
@@ -48,12 +50,12 @@ fn known_features(a: Args) -> Judged
 }
 
 // A call that reaches handler 0. Any world may make it.
-pub fn architecture_call(a: Args, key: u32) -> Judged
-    ensures { λ r. ⌜ r ≡ architecture a key ⌝ }
+pub fn architecture_call(x: &[u64; 8], key: u32) -> Judged
+    ensures { λ r. ⌜ r ≡ architecture (argsBy key (now (x .entry))) key ⌝ }
 {
     match key {
         VERSION => grant(Answer::Version, Deed::Nothing),
-        FEATURES => known_features(a),
+        FEATURES => known_features(read_args(key, x)),
         _ => refuse(Reason::Unserved),
     }
 }

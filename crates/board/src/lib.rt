@@ -6,6 +6,7 @@ ghost use Rattle.cores.specs.Cores.{onCount};
 ghost use Rattle.mapping.specs.Mapping.{mapVerdict, leadOf};
 ghost use Rattle.rules.specs.Sizes.{normal};
 ghost use Rattle.judgements.specs.Judge.{granted, handlerSight, wanted, owning, mapping as mappingBy, unmapping, leading, board};
+ghost use Rattle.judgements.specs.Read.{argsBy};
 use cores::Powers;
 use judgements::Answer;
 use judgements::Args;
@@ -14,6 +15,7 @@ use judgements::Deed;
 use judgements::Judged;
 use judgements::grant;
 use judgements::names;
+use judgements::read_args;
 use judgements::refuse;
 use mapping::Lead;
 use mapping::Lists;
@@ -95,16 +97,16 @@ pub fn board_call(
     powers: &Powers,
     owners: &Owners,
     lists: &Lists,
-    a: Args,
+    x: &[u64; 8],
     key: u32,
 ) -> Judged
-    ensures { λ r. ⌜ r ≡ board (handlerSight v (now (powers .entry)) (now (owners .entry)) (held (now (lists .entry)) (v .world)) (held (now (lists .entry)) normal)) a key ⌝ }
+    ensures { λ r. ⌜ r ≡ board (handlerSight v (now (powers .entry)) (now (owners .entry)) (held (now (lists .entry)) (v .world)) (held (now (lists .entry)) normal)) (argsBy key (now (x .entry))) key ⌝ }
 {
     match key {
-        names::OWNS_PAGE => own_page(v, owners, a),
-        names::MAP_PAGES => map_pages(v, owners, lists, a),
-        names::UNMAP_PAGES => unmap_pages(v, lists, a),
-        names::WHERE_LEADS => where_leads(v, lists, a),
+        names::OWNS_PAGE => own_page(v, owners, read_args(key, x)),
+        names::MAP_PAGES => map_pages(v, owners, lists, read_args(key, x)),
+        names::UNMAP_PAGES => unmap_pages(v, lists, read_args(key, x)),
+        names::WHERE_LEADS => where_leads(v, lists, read_args(key, x)),
         names::COUNT_ON => count_on(powers),
         _ => refuse(Reason::Unserved),
     }

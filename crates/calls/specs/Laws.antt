@@ -23,7 +23,8 @@ use Rattle.judgements.specs.declared.Answer.{Answer}
 use Rattle.judgements.specs.declared.Answer.the-variants.{Silent, No}
 use Rattle.judgements.specs.declared.Deed.{Deed}
 use Rattle.judgements.specs.declared.Deed.the-variants.{Nothing, Move, Map, Unmap, Start, GoOff, HandOver, Finish}
-use Rattle.judging.specs.Laws.{requestOf}
+use Rattle.judgements.specs.Read.{argsBy}
+use Rattle.judging.specs.Laws.{requestOf, request-args}
 use Rattle.judgements.specs.declared.Judged.{Judged}
 use Rattle.judgements.specs.declared.Request.{Request}
 use Rattle.judgements.specs.declared.Caller.{Caller}
@@ -90,18 +91,19 @@ pub stepped-late : (w : Site) (l o r p t m xs : List ℕ) (core : ℕ) (v : Call
     → v ≡ callerOn w t core
     → n ≡ saving r core (v .world) xs
     → k ≡ requestOf xs
-    → j ≡ judgedBy (sighted l (handlerSight v p o (held m (v .world)) (held m normal))) (k .parts) (k .args) (k .key)
+    → j ≡ judgedBy (sighted l (handlerSight v p o (held m (v .world)) (held m normal))) (k .parts) (argsBy (k .key) xs) (k .key)
     → tables o′ q p′ t′ m′ ≡ carriedOut (j .deed) core (v .world) xs (tables o n p t m)
     → r′ ≡ saving q core (v .world) (written (k .parts) (j .answer))
     → (state w l o′ r′ p′ t′ m′, record { caller = v .world; answer = j .answer }) ≡ called (state w l o r p t m) core xs
 unfolding judged
 stepped-late w l o r p t m xs core v k j n q o′ r′ p′ t′ m′ ev en ek ej es ew =
     let sees = sighted l (handlerSight v p o (held m (v .world)) (held m normal)) in
-    let is : j ≡ judged sees xs = rw ek at ej in
-    let quiet : Quietly (j .deed) (j .answer) = rw is (quietly sees xs (judged sees xs .deed) refl) in
+    let is : j ≡ judgedBy sees (k .parts) (k .args) (k .key) = rw (request-args xs k ek) at ej in
+    let whole : j ≡ judged sees xs = rw ek at is in
+    let quiet : Quietly (j .deed) (j .answer) = rw whole (quietly sees xs (judged sees xs .deed) refl) in
     let done : tables o′ r′ p′ t′ m′ ≡ carriedOut (j .deed) core (v .world) xs (tables o (saving n core (v .world) (written (k .parts) (j .answer))) p t m) =
     rw ew (ap (λ (y : Tables). withSaved y (saving (y .saved) core (v .world) (written (k .parts) (j .answer)))) es ∙ late core (v .world) xs (k .parts) (j .answer) o n p t m (j .deed) quiet) in
-    stepped w l o r p t m xs core v k j n (saving n core (v .world) (written (k .parts) (j .answer))) o′ r′ p′ t′ m′ ev en ek ej refl done
+    stepped w l o r p t m xs core v k j n (saving n core (v .world) (written (k .parts) (j .answer))) o′ r′ p′ t′ m′ ev en ek is refl done
 
 -- a world that makes no calls is refused, and nothing is done for it
 pub unheard : (w : Site) (l o r p t m xs : List ℕ) (core : ℕ) (v : Caller) (heard : Bool) (k : Request) (n q : List ℕ)

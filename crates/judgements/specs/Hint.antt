@@ -27,13 +27,13 @@ unfolding argsOf argument
 args-alike p q x0 y0 xs e = rw e
 
 -- ---- numbers that differ in bit 16 alone
-bits-above : (a b h : ℕ) → h ≡ a / 2 ^ 16 % 2 → b + h * 2 ^ 16 ≡ a → b / 2 ^ 17 ≡ a / 2 ^ 17
+pub bits-above : (a b h : ℕ) → h ≡ a / 2 ^ 16 % 2 → b + h * 2 ^ 16 ≡ a → b / 2 ^ 17 ≡ a / 2 ^ 17
 bits-above a b h e f = omega arith
 
 bit-clear : (a b h : ℕ) → h ≡ a / 2 ^ 16 % 2 → b + h * 2 ^ 16 ≡ a → b / 2 ^ 16 % 2 ≡ 0
 bit-clear a b h e f = omega arith
 
-same-above : (a b : ℕ) → b / 2 ^ 17 ≡ a / 2 ^ 17 → (a / 2 ^ 31 ≡ b / 2 ^ 31) × ((a / 2 ^ 30 ≡ b / 2 ^ 30) × (a / 2 ^ 24 ≡ b / 2 ^ 24))
+pub same-above : (a b : ℕ) → b / 2 ^ 17 ≡ a / 2 ^ 17 → (a / 2 ^ 31 ≡ b / 2 ^ 31) × ((a / 2 ^ 30 ≡ b / 2 ^ 30) × (a / 2 ^ 24 ≡ b / 2 ^ 24))
 same-above a b e = (omega arith, (omega arith, omega arith))
 
 -- a is b with bit 16 set or not; what each leaves without its own bit 16 is the same

@@ -8,5 +8,6 @@ pub mod Refused
 pub mod Decided
 pub mod Granules
 pub mod Hint
+pub mod Read
 pub mod Quiet
 pub mod Granted

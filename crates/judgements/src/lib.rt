@@ -1,9 +1,11 @@
 // What a call is answered and what is done for it: the table of calls (specs/Judge.antt), its types and names, and the two ways a judgement ends.
 ghost use mathlib.Core.Path.{_≡_};
-ghost use Rattle.judgements.specs.Judge.{wanted, denied, granted};
+ghost use Rattle.judgements.specs.Judge.{wanted, argsOf, denied, granted};
+ghost use Rattle.judgements.specs.Read.{argsBy};
 
 pub mod names;
 
+use identifiers::Identifier;
 use identifiers::Parts;
 use mapping::Mapping;
 use pages::Window;
@@ -104,6 +106,34 @@ pub struct Request {
     pub parts: Parts,
     pub key: u32,
     pub args: Args,
+}
+
+// The arguments, as a call of these parts reads them: a 64-bit one as they stand.
+fn args_of(p: Parts, x: &[u64; 8]) -> Args
+    ensures { λ r. ⌜ r ≡ argsOf p (now (x .entry)) ⌝ }
+{
+    if p.wide == 1 {
+        return Args {
+            x1: x[1],
+            x2: x[2],
+            x3: x[3],
+            x4: x[4],
+        };
+    }
+    Args {
+        x1: p.argument(x[1]),
+        x2: p.argument(x[2]),
+        x3: p.argument(x[3]),
+        x4: p.argument(x[4]),
+    }
+}
+
+// The arguments, as a call of this key reads them. Who knows the key knows the width, and reads no more than it needs.
+pub fn read_args(key: u32, x: &[u64; 8]) -> Args
+    ensures { λ r. ⌜ r ≡ argsBy key (now (x .entry)) ⌝ }
+{
+    let p = Identifier(key).split();
+    args_of(p, x)
 }
 
 // A refusal changes nothing.

@@ -1,12 +1,11 @@
 -- How what the ledger says, and the eight numbers, lead to the whole judgement.
-use mathlib.Core.Path.{_≡_}
+use mathlib.Core.Path.{_≡_, ap, _∙_}
 use mathlib.Core.List.{List}
 use Prim.Native.Nat.{ℕ}
 use lib.ListN.{getD}
 use Rattle.rules.specs.Tests.{contraries}
 use Rattle.rules.specs.declared.Reason.the-variants as Reason
-use Rattle.rules.specs.Choice.{pick}
-use Rattle.identifiers.specs.Identifier.{identifierOf, parts, keyOf, argument}
+use Rattle.identifiers.specs.Identifier.{identifierOf, parts, keyOf}
 use Rattle.identifiers.specs.declared.Identifier.{Identifier}
 use Rattle.identifiers.specs.declared.Parts.{Parts}
 use Rattle.ledger.specs.declared.Lookup.{Lookup}
@@ -18,6 +17,7 @@ use Rattle.judgements.specs.declared.Transfer.{Transfer}
 use Rattle.judgements.specs.declared.Row.{Row}
 use Rattle.judgements.specs.declared.Row.the-variants.{Is, NoTransfer}
 use Rattle.judgements.specs.Judge.{HandlerSight, calledBy, argsOf, denied, transferring, byNumber, byRow, found, byHandler}
+use Rattle.judgements.specs.Read.{argsBy, read-by-key}
 
 -- ---- what the ledger says
 module _ (s : HandlerSight) (a : Args) (key : ℕ) (k l : Lookup) (r : Judged) (same : k ≡ l) where
@@ -46,12 +46,13 @@ abbrev pub requestOf : List ℕ → Request
 requestOf xs = record { parts = calledBy xs; key = keyOf (identifierOf (getD xs 0 0)); args = argsOf (calledBy xs) xs }
 
 pub request-is : (xs : List ℕ) (id : Identifier) (p : Parts) (a : Args) (key : ℕ)
-    → id ≡ identifierOf (getD xs 0 0) → p ≡ parts id → a ≡ argsOf p xs → key ≡ keyOf id → record { parts = p; key = key; args = a } ≡ requestOf xs
-request-is xs id p a key i e f g = rw (g, f, e, i)
+    → id ≡ identifierOf (getD xs 0 0) → p ≡ parts id → a ≡ argsBy key xs → key ≡ keyOf id → record { parts = p; key = key; args = a } ≡ requestOf xs
+request-is xs id p a key i e f g =
+    let h : a ≡ argsOf (parts id) xs = f ∙ (ap (λ (k : ℕ). argsBy k xs) g ∙ read-by-key id xs) in
+    rw (g, h, e, i)
 
--- a 64-bit call reads its arguments as they stand
-pub args-wide : (p : Parts) (xs : List ℕ) → p .wide ≡ 1 → record { x1 = getD xs 1 0; x2 = getD xs 2 0; x3 = getD xs 3 0; x4 = getD xs 4 0 } ≡ argsOf p xs
-unfolding argsOf argument pick
-args-wide p xs e = rw e
+-- by its key it reads the same
+pub request-args : (xs : List ℕ) (q : Request) → q ≡ requestOf xs → argsBy (q .key) xs ≡ q .args
+request-args xs q e = rw e (read-by-key (identifierOf (getD xs 0 0)) xs)
 
 pub ruleset lookups = (by-nobody, by-somebody, contraries)

@@ -3,10 +3,10 @@ ghost use mathlib.Core.Path.{_≡_};
 ghost use Rattle.mapping.specs.Lists.{held};
 ghost use Rattle.rules.specs.Sizes.{normal};
 ghost use Rattle.judgements.specs.Judge.{oneOf, rowOf, mayTransfer, moving, transferring};
+ghost use Rattle.judgements.specs.Read.{argsBy};
 ghost use Rattle.judgements.specs.declared.Row.the-variants.{Is};
 ghost use Rattle.page_calls.specs.Laws.{endsOf};
 use judgements::Answer;
-use judgements::Args;
 use judgements::Caller;
 use judgements::Deed;
 use judgements::Judged;
@@ -14,6 +14,7 @@ use judgements::Row;
 use judgements::Transfer;
 use judgements::grant;
 use judgements::names;
+use judgements::read_args;
 use judgements::refuse;
 use mapping::Lists;
 use pages::Owners;
@@ -28,8 +29,8 @@ fn row(both: bool, takes: bool, count: u64) -> Row
 }
 
 // The table of transfers: the row of a call, by its handler and key. x2 is read by those that name a count.
-pub fn row_of(a: Args, h: u64, key: u32) -> Row
-    ensures { λ r. ⌜ r ≡ rowOf a h key ⌝ }
+pub fn row_of(x: &[u64; 8], h: u64, key: u32) -> Row
+    ensures { λ r. ⌜ r ≡ rowOf (argsBy key (now (x .entry))) h key ⌝ }
 {
     if h == 2 {
         return match key {
@@ -40,8 +41,8 @@ pub fn row_of(a: Args, h: u64, key: u32) -> Row
     }
     if h == 1 {
         return match key {
-            names::TAKE_PAGES => row(true, true, a.x2),
-            names::GIVE_PAGES => row(true, false, a.x2),
+            names::TAKE_PAGES => row(true, true, read_args(key, x).x2),
+            names::GIVE_PAGES => row(true, false, read_args(key, x).x2),
             _ => Row::NoTransfer,
         };
     }
@@ -91,12 +92,20 @@ fn ends_of(t: Transfer, world: u64) -> Ends
 }
 
 // Pages from x1 on, from Normal to the caller, or from the caller to Normal.
-pub fn transfer(t: Transfer, v: Caller, owners: &Owners, lists: &Lists, a: Args) -> Judged
-    ensures { λ r. ⌜ r ≡ transferring t v (now (owners .entry)) (held (now (lists .entry)) (v .world)) (held (now (lists .entry)) normal) a ⌝ }
+pub fn transfer(
+    t: Transfer,
+    v: Caller,
+    owners: &Owners,
+    lists: &Lists,
+    x: &[u64; 8],
+    key: u32,
+) -> Judged
+    ensures { λ r. ⌜ r ≡ transferring t v (now (owners .entry)) (held (now (lists .entry)) (v .world)) (held (now (lists .entry)) normal) (argsBy key (now (x .entry))) ⌝ }
 {
     if !may_transfer(t, v.world) {
         return refuse(Reason::Unserved);
     }
+    let a = read_args(key, x);
     let w = v.window;
     let n = t.count;
     let e = ends_of(t, v.world);

@@ -20,7 +20,8 @@ use Rattle.judgements.specs.declared.Row.the-variants.{Is, NoTransfer}
 use Rattle.judgements.specs.declared.Request.{Request}
 use Rattle.judgements.specs.declared.Answer.{Answer}
 use Rattle.judgements.specs.declared.Answer.the-variants as Answer
-use Rattle.judging.specs.Laws.{requestOf}
+use Rattle.judgements.specs.Read.{argsBy}
+use Rattle.judging.specs.Laws.{requestOf, request-args}
 use Rattle.parsing.specs.Frame.{statusByte}
 use Rattle.parsing.specs.declared.Status.{Status}
 use Rattle.parsing.specs.declared.Frame.{Frame}
@@ -54,7 +55,10 @@ module _ (w : Window) (start count : ℕ) (p : Place) (is : p ≡ runOf w start 
 pub ruleset lyings = (lies-in, lies-out)
 
 -- ---- the pages of a transfer
-module _ (w : Window) (xs : List ℕ) (q : Request) (is : q ≡ requestOf xs) (r : Row) (so : r ≡ anyRow (q .args) (q .key)) where
+module _ (w : Window) (xs : List ℕ) (q : Request) (is : q ≡ requestOf xs) (r : Row) (found : r ≡ anyRow (argsBy (q .key) xs) (q .key)) where
+  so : r ≡ anyRow (q .args) (q .key)
+  so = rw (request-args xs q is) at found
+
   pub asks-none : r ≡ NoTransfer → NoPages ≡ askedBy w xs
   unfolding askedBy
   asks-none e = let z : anyRow (argsOf (calledBy xs) xs) (key xs) ≡ NoTransfer = sym (rw is at so) ∙ e in rw z

@@ -1,9 +1,9 @@
 // Which pages a line is about: those that it names an owner for, and those whose transfer a call asks for.
 ghost use mathlib.Core.Path.{_≡_};
+ghost use Rattle.judgements.specs.Read.{argsBy};
 ghost use Rattle.spans.specs.Spans.{anyRow, spanOf, askedBy, isDone, namedIn, named};
 use calls::Made;
 use judgements::Answer;
-use judgements::Args;
 use judgements::Row;
 use outcomes::Came;
 use pages::Place;
@@ -18,11 +18,11 @@ pub enum Span {
 }
 
 // The transfer that a call is by its identifier: two handlers know some, and no identifier is known to both.
-fn any_row(a: Args, key: u32) -> Row
-    ensures { λ r. ⌜ r ≡ anyRow a key ⌝ }
+fn any_row(x: &[u64; 8], key: u32) -> Row
+    ensures { λ r. ⌜ r ≡ anyRow (argsBy key (now (x .entry))) key ⌝ }
 {
-    let Row::Is(t) = page_calls::row_of(a, 2, key) else {
-        return page_calls::row_of(a, 1, key);
+    let Row::Is(t) = page_calls::row_of(x, 2, key) else {
+        return page_calls::row_of(x, 1, key);
     };
     Row::Is(t)
 }
@@ -43,7 +43,7 @@ pub fn asked_by(w: Window, x: &[u64; 8]) -> Span
 {
     let q = judging::read_call(x);
     let a = q.args;
-    let Row::Is(t) = any_row(a, q.key) else {
+    let Row::Is(t) = any_row(x, q.key) else {
         return Span::NoPages;
     };
     span_of(w, a.x1, t.count)

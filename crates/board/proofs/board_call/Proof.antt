@@ -5,14 +5,30 @@ use Rattle.board.proofs.board_call.Tie as tie
 use Rattle.judgements.specs.Judge.{board}
 use Rattle.rules.specs.Tests.{contraries}
 
+-- src/lib.rt:106:49
+read-args-requires : tie.Need-read-args-requires
+read-args-requires c κs = search needs
+
 own-page-requires : tie.Need-own-page-requires
 own-page-requires c κs = search needs
+
+-- src/lib.rt:107:57
+read-args-requires-2 : tie.Need-read-args-requires-2
+read-args-requires-2 c κs = search needs
 
 map-pages-requires : tie.Need-map-pages-requires
 map-pages-requires c κs = search needs
 
+-- src/lib.rt:108:53
+read-args-requires-3 : tie.Need-read-args-requires-3
+read-args-requires-3 c κs = search needs
+
 unmap-pages-requires : tie.Need-unmap-pages-requires
 unmap-pages-requires c κs = search needs
+
+-- src/lib.rt:109:53
+read-args-requires-4 : tie.Need-read-args-requires-4
+read-args-requires-4 c κs = search needs
 
 where-leads-requires : tie.Need-where-leads-requires
 where-leads-requires c κs = search needs
@@ -25,19 +41,19 @@ refuse-requires c κs = search needs
 
 returns : tie.Need-returns
 unfolding board
-returns c = search contraries fits 20000 depth 40
+returns c = let h = rw (c .before .read-args .ensures) at (c .own-page .ensures) in search (contraries, h) fits 20000 depth 40
 
 returns-2 : tie.Need-returns-2
 unfolding board
-returns-2 c = search contraries fits 20000 depth 40
+returns-2 c = let h = rw (c .before .read-args2 .ensures) at (c .map-pages .ensures) in search (contraries, h) fits 20000 depth 40
 
 returns-3 : tie.Need-returns-3
 unfolding board
-returns-3 c = search contraries fits 20000 depth 40
+returns-3 c = let h = rw (c .before .read-args3 .ensures) at (c .unmap-pages .ensures) in search (contraries, h) fits 20000 depth 40
 
 returns-4 : tie.Need-returns-4
 unfolding board
-returns-4 c = search contraries fits 20000 depth 40
+returns-4 c = let h = rw (c .before .read-args4 .ensures) at (c .where-leads .ensures) in search (contraries, h) fits 20000 depth 40
 
 returns-5 : tie.Need-returns-5
 unfolding board
@@ -51,9 +67,13 @@ pub board-call-spec : {M : Type 1} → statement M
 board-call-spec =
     tie.close
     (tie.spec
+    read-args-requires
     own-page-requires
+    read-args-requires-2
     map-pages-requires
+    read-args-requires-3
     unmap-pages-requires
+    read-args-requires-4
     where-leads-requires
     count-on-requires
     refuse-requires

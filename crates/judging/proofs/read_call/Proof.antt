@@ -10,14 +10,14 @@ element-copy-out-of c = search needs
 of-requires : tie.Need-of-requires
 of-requires c κs = search needs
 
+key-requires : tie.Need-key-requires
+key-requires c κs = search needs
+
 split-requires : tie.Need-split-requires
 split-requires c κs = search needs
 
 read-args-requires : tie.Need-read-args-requires
 read-args-requires c κs = search needs
-
-key-requires : tie.Need-key-requires
-key-requires c κs = search needs
 
 returns : tie.Need-returns
 returns c = search request-is
@@ -28,7 +28,7 @@ read-call-spec =
     (tie.spec
     element-copy-out-of
     of-requires
+    key-requires
     split-requires
     read-args-requires
-    key-requires
     returns)

@@ -1,9 +1,9 @@
 -- A world that may call is told what the verdict makes of the call, whichever way the pages go.
 use borrow.Author.Needs.{needs}
-use Rattle.judgements.specs.Judge.{transferring}
-use Rattle.page_calls.specs.Laws.{moves}
 use Rattle.page_calls.proofs.transfer.Statement.{statement}
 use Rattle.page_calls.proofs.transfer.Tie as tie
+use Rattle.judgements.specs.Judge.{transferring}
+use Rattle.page_calls.specs.Laws.{moves}
 
 may-transfer-requires : tie.Need-may-transfer-requires
 may-transfer-requires c κs = search needs
@@ -14,6 +14,10 @@ refuse-requires c κs = search needs
 returns : tie.Need-returns
 unfolding transferring
 returns c = search moves depth 20
+
+-- src/lib.rt:108:9
+read-args-requires : tie.Need-read-args-requires
+read-args-requires c κs = search needs
 
 ends-of-requires : tie.Need-ends-of-requires
 ends-of-requires c κs = search needs
@@ -26,7 +30,7 @@ moved-requires c κs = search needs
 
 returns-2 : tie.Need-returns-2
 unfolding transferring
-returns-2 c = search moves depth 20
+returns-2 c = let h = rw (c .before .before .before .before .read-args .ensures) at (c .before .judge .ensures) in search (moves, h) depth 20
 
 pub transfer-spec : {M : Type 1} → statement M
 transfer-spec =
@@ -35,6 +39,7 @@ transfer-spec =
     may-transfer-requires
     refuse-requires
     returns
+    read-args-requires
     ends-of-requires
     judge-requires
     moved-requires

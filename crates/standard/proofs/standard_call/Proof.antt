@@ -11,17 +11,37 @@ power-version-requires c κs = search needs
 go-off-requires : tie.Need-go-off-requires
 go-off-requires c κs = search needs
 
+-- src/lib.rt:57:60
+read-args-requires : tie.Need-read-args-requires
+read-args-requires c κs = search needs
+
 start-core-requires : tie.Need-start-core-requires
 start-core-requires c κs = search needs
+
+-- src/lib.rt:58:65
+read-args-requires-2 : tie.Need-read-args-requires-2
+read-args-requires-2 c κs = search needs
 
 start-core-requires-2 : tie.Need-start-core-requires-2
 start-core-requires-2 c κs = search needs
 
+-- src/lib.rt:59:52
+read-args-requires-3 : tie.Need-read-args-requires-3
+read-args-requires-3 c κs = search needs
+
 tell-state-requires : tie.Need-tell-state-requires
 tell-state-requires c κs = search needs
 
+-- src/lib.rt:60:57
+read-args-requires-4 : tie.Need-read-args-requires-4
+read-args-requires-4 c κs = search needs
+
 tell-state-requires-2 : tie.Need-tell-state-requires-2
 tell-state-requires-2 c κs = search needs
+
+-- src/lib.rt:61:52
+read-args-requires-5 : tie.Need-read-args-requires-5
+read-args-requires-5 c κs = search needs
 
 power-features-requires : tie.Need-power-features-requires
 power-features-requires c κs = search needs
@@ -39,23 +59,23 @@ returns-2 c = search contraries fits 20000 depth 40
 
 returns-3 : tie.Need-returns-3
 unfolding standard
-returns-3 c = search contraries fits 20000 depth 40
+returns-3 c = let h = rw (c .before .read-args .ensures) at (c .start-core .ensures) in search (contraries, h) fits 20000 depth 40
 
 returns-4 : tie.Need-returns-4
 unfolding standard
-returns-4 c = search contraries fits 20000 depth 40
+returns-4 c = let h = rw (c .before .read-args2 .ensures) at (c .start-core2 .ensures) in search (contraries, h) fits 20000 depth 40
 
 returns-5 : tie.Need-returns-5
 unfolding standard
-returns-5 c = search contraries fits 20000 depth 40
+returns-5 c = let h = rw (c .before .read-args3 .ensures) at (c .tell-state .ensures) in search (contraries, h) fits 20000 depth 40
 
 returns-6 : tie.Need-returns-6
 unfolding standard
-returns-6 c = search contraries fits 20000 depth 40
+returns-6 c = let h = rw (c .before .read-args4 .ensures) at (c .tell-state2 .ensures) in search (contraries, h) fits 20000 depth 40
 
 returns-7 : tie.Need-returns-7
 unfolding standard
-returns-7 c = search contraries fits 20000 depth 40
+returns-7 c = let h = rw (c .before .read-args5 .ensures) at (c .power-features .ensures) in search (contraries, h) fits 20000 depth 40
 
 returns-8 : tie.Need-returns-8
 unfolding standard
@@ -67,10 +87,15 @@ standard-call-spec =
     (tie.spec
     power-version-requires
     go-off-requires
+    read-args-requires
     start-core-requires
+    read-args-requires-2
     start-core-requires-2
+    read-args-requires-3
     tell-state-requires
+    read-args-requires-4
     tell-state-requires-2
+    read-args-requires-5
     power-features-requires
     realm-call-requires
     returns

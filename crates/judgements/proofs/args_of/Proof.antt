@@ -1,9 +1,9 @@
 -- A 64-bit call reads the numbers as they stand; else each argument is what the promise of `argument` says of its number, as `argsOf` lists them.
 use borrow.Author.Needs.{needs}
 use Rattle.judgements.specs.Judge.{argsOf}
-use Rattle.judging.specs.Laws.{args-wide}
-use Rattle.judging.proofs.read_args.Statement.{statement}
-use Rattle.judging.proofs.read_args.Tie as tie
+use Rattle.judgements.specs.Read.{args-wide}
+use Rattle.judgements.proofs.args_of.Statement.{statement}
+use Rattle.judgements.proofs.args_of.Tie as tie
 
 element-copy-out-t6 : tie.Need-element-copy-out-t6
 element-copy-out-t6 c = search needs
@@ -49,8 +49,8 @@ unfolding argsOf
 returns-2 c =
     rw (c .argument4 .ensures, c .before .before .argument3 .ensures, c .before .before .before .before .argument2 .ensures, c .before .before .before .before .before .before .argument .ensures)
 
-pub read-args-spec : {M : Type 1} → statement M
-read-args-spec =
+pub args-of-spec : {M : Type 1} → statement M
+args-of-spec =
     tie.close
     (tie.spec
     element-copy-out-t6
