@@ -112,11 +112,11 @@ module _ (e kind owner : ℕ) where
     ends : e / 256 % 128 < kind * 64 + owner → false ≡ meant e kind owner
     ends h = sym (not-meant (λ z f l. omega arith))
 
-    starts : kind * 64 + owner ≤ e / 256 % 128 → leb (e / 256 % 128 / 64 * 64 + e % 64) (kind * 64 + owner) ≡ meant e kind owner
+    starts : kind * 64 + owner ≤ e / 256 % 128 → leb (kindOf e * 16384 + firstOf e) (kind * 16384 + owner) ≡ meant e kind owner
     unfolding meant
     starts h =
-        let pair = kind * 64 + owner in
-        let start = kindOf e * 64 + firstOf e in
+        let pair = kind * 16384 + owner in
+        let start = kindOf e * 16384 + firstOf e in
         either (leb start pair)
         (λ y.
         let s : start ≤ pair = leb-true start pair y in
@@ -128,8 +128,8 @@ module _ (e kind owner : ℕ) where
       pub ends-before : e < 32768 + (kind * 64 + owner) * 256 → false ≡ meant e kind owner
       ends-before h = ends (omega arith)
 
-      pub starts-before : 32768 + (kind * 64 + owner) * 256 ≤ e → leb (e / 256 % 128 / 64 * 64 + e % 64) (kind * 64 + owner) ≡ meant e kind owner
-      starts-before h = starts (omega arith)
+      pub starts-before : 32768 + (kind * 64 + owner) * 256 ≤ e → leb (e / 16384 % 2 * 16384 + e % 64) (kind * 16384 + owner) ≡ meant e kind owner
+      starts-before h = let type : e / 16384 % 2 ≡ kindOf e = omega arith in rw type (starts (omega arith))
 
 pub ruleset meanings = (ends-before, starts-before)
 

@@ -53,7 +53,7 @@ fn wide(x: u16) -> u64
 }
 
 // Whether an entry names a pair: that is not behind the entry's last, and not before its first. Where it is behind the last, the
-// whole entry is a smaller number than any that ends with the pair.
+// whole entry is a smaller number than any that ends with the pair. The type and the first owner are compared where they stand.
 fn is_meant(e: u64, kind: u64, owner: u64) -> bool
     requires { ⌜ kind ≤ 1 ⌝ ∗ ⌜ owner ≤ 63 ⌝ ∗ ⌜ 32768 ≤ e ⌝ ∗ ⌜ e < 65536 ⌝ }
     ensures { λ r. ⌜ r ≡ meant e kind owner ⌝ }
@@ -62,7 +62,7 @@ fn is_meant(e: u64, kind: u64, owner: u64) -> bool
     if e < IN_USE + pair * LAST {
         return false;
     }
-    e / LAST % PAIRS / OWNERS * OWNERS + e % OWNERS <= pair
+    e / KIND % 2 * KIND + e % OWNERS <= kind * KIND + owner
 }
 
 // The lookup, with numbers as wide as an entry's: the walk ends at the first entry that names the pair, or at a free place.

@@ -25,9 +25,26 @@ mul-result c = search needs
 add-result : tie.Need-add-result
 add-result c = search needs
 
+mul-result-2 : tie.Need-mul-result-2
+mul-result-2 c = search needs
+
+add-result-2 : tie.Need-add-result-2
+add-result-2 c = search needs
+
 returns-2 : tie.Need-returns-2
 returns-2 c = search (needs, meanings)
 
 pub is-meant-spec : {M : Type 1} → statement M
 is-meant-spec =
-    tie.close (tie.spec mul-pair add-pair mul-if1 add-if1 returns mul-result add-result returns-2)
+    tie.close
+    (tie.spec
+    mul-pair
+    add-pair
+    mul-if1
+    add-if1
+    returns
+    mul-result
+    add-result
+    mul-result-2
+    add-result-2
+    returns-2)
