@@ -45,7 +45,13 @@ static struct mapping mappings[WORLDS][MOST_MAPPINGS];
 static unsigned held[WORLDS];
 static struct core core_table[MOST_CORES];
 static uint64_t saved[MOST_CORES][WORLDS][NUMBERS];
-static uint8_t ledger[2][64];  // by type, then owner number
+
+// The ledger: the accepted entries, oldest first.
+struct entry {
+    uint8_t first, last, type, handler;
+};
+static struct entry ledger[128];
+static unsigned entered;
 
 // Set-up: it ends with the first accepted frame 20.
 static bool calls_begun;
@@ -374,7 +380,11 @@ static enum handler look_up(uint32_t id)
     bool fast = id >> 31;
     if (fast && (id & 0x00fe0000) != 0)
         return NOBODY;
-    return ledger[fast][id >> 24 & 0x3f];
+    unsigned number = id >> 24 & 0x3f;
+    for (unsigned i = 0; i < entered; i++)
+        if (ledger[i].type == fast && ledger[i].first <= number && number <= ledger[i].last)
+            return ledger[i].handler;
+    return NOBODY;
 }
 
 // The call in the running world's registers is judged and done.
@@ -505,10 +515,10 @@ static uint8_t ledger_frame(const uint8_t *f)
     unsigned first = f[1], last = f[2], type = f[3], handler = f[4];
     if (first > last || last > 63 || type > 1 || handler >= HANDLERS)
         return OUT_OF_RANGE;
-    for (unsigned i = first; i <= last; i++)
-        if (ledger[type][i] != NOBODY)
+    for (unsigned i = 0; i < entered; i++)
+        if (ledger[i].type == type && ledger[i].first <= last && first <= ledger[i].last)
             return CLASH;
-    memset(ledger[type] + first, (int)handler, last - first + 1);
+    ledger[entered++] = (struct entry){(uint8_t)first, (uint8_t)last, (uint8_t)type, (uint8_t)handler};
     return ACCEPTED;
 }
 
@@ -641,7 +651,7 @@ static void begin(void)
         memcpy(&two, digits_of[i], 2);
         byte_of[two] = (uint16_t)(GOOD | i);
     }
-    memset(ledger, NOBODY, sizeof ledger);
+    entered = 0;
     for (unsigned i = 0; i < MOST_CORES; i++)
         core_table[i].running = NORMAL;
     core_table[0].power = ON;

@@ -75,7 +75,8 @@ class Traced(Machine):
         super().map(core, caller, physical, virtual, size, attributes)
         if size:
             places = self.places[caller]
-            places[places.index(None)] = (virtual, size, physical, attributes)
+            behind = max((i + 1 for i, held in enumerate(places) if held), default=0)
+            places[behind if behind < 16 else places.index(None)] = (virtual, size, physical, attributes)
             self.pages |= set(self.span(physical, size))
         return [0]
 
