@@ -58,12 +58,13 @@ class Traced(Machine):
         self.pages = set(range(first, first + count))
 
     def call(self, number, *x):
+        caller = self.cores[number].world if number < len(self.cores) else None
         said = super().call(number, *x)
         key = without_hint(x[0] % 2**32)
-        if key in SINGLE + SEVERAL:
-            size = PAGE * (1 if key in SINGLE else x[2])
-            if x[1] % PAGE == 0 and size and self.within(x[1], size):
-                self.pages |= set(self.span(x[1], size))
+        if key in SINGLE + SEVERAL and self.cores[number].world == caller:
+            end = x[1] + PAGE * (1 if key in SINGLE else x[2])
+            starts = (self.base + page * PAGE for page in range(len(self.owners)))
+            self.pages |= {page for page, start in enumerate(starts) if max(start, x[1]) < min(start + PAGE, end)}
         return said
 
     def move(self, start, count, giver, taker):

@@ -1,9 +1,10 @@
 -- Which pages a line is about: those that it names an owner for, and those whose transfer a call asks for.
-use mathlib.Core.Bool.{Bool, true, false}
+use mathlib.Core.Bool.{Bool, true, false, _&&_}
 use mathlib.Core.List.{List}
-use Prim.Native.Nat.{ℕ}
-use lib.Dec.{eqb}
+use Prim.Native.Nat.{ℕ, _+_, _*_, _/_}
+use lib.Dec.{eqb, ltb}
 use Rattle.rules.specs.Choice.{pick}
+use Rattle.rules.specs.Sizes.{pageSize}
 use Rattle.pages.specs.Window.{runOf}
 use Rattle.pages.specs.declared.Window.{Window}
 use Rattle.pages.specs.declared.Place.{Place}
@@ -75,3 +76,35 @@ namedIn (Frame.Refused why) = NoPages
 unfoldable pub named : Window → Frame → List ℕ → Came → Span
 named w f xs (Told why) = pick (eqb (statusByte why) 0) (namedIn f) NoPages
 named w f xs (Called made) = pick (isDone (made .answer)) (askedBy w xs) NoPages
+
+-- ---- the pages whose transfer a call asks for
+-- of some pages from `start` on, an address lies in the page that holds this one
+unfoldable pub overPage : ℕ → ℕ → ℕ → Bool
+overPage address start count = let at = address / pageSize * pageSize in ltb 0 count && (ltb start (at + pageSize) && ltb at (start + count * pageSize))
+
+abbrev pub overBy : ℕ → Args → Row → Bool
+overBy address a (Is t) = overPage address (a .x1) (t .count)
+overBy address a NoTransfer = false
+
+-- wherever they lie
+unfoldable pub asksOver : ℕ → List ℕ → Bool
+asksOver address xs = let a = argsOf (calledBy xs) xs in overBy address a (anyRow a (key xs))
+
+-- the call is granted or refused, and not handed over
+abbrev pub isVerdict : Answer → Bool
+isVerdict Answer.Version = false
+isVerdict Answer.PowerVersion = false
+isVerdict Answer.Done = true
+isVerdict Answer.On = false
+isVerdict Answer.Off = false
+isVerdict Answer.Pending = false
+isVerdict (Answer.Owns is) = false
+isVerdict (Answer.Leads phys attr) = false
+isVerdict (Answer.Count n) = false
+isVerdict Answer.Silent = false
+isVerdict (Answer.No r) = true
+
+-- a page of the window is asked for, by an address in it
+abbrev pub asksFor : Place → ℕ → List ℕ → Answer → Bool
+asksFor (Page page) address xs a = isVerdict a && asksOver address xs
+asksFor Outside address xs a = false

@@ -1,7 +1,7 @@
 // Which pages a line is about: those that it names an owner for, and those whose transfer a call asks for.
 ghost use mathlib.Core.Path.{_≡_};
 ghost use Rattle.judgements.specs.Read.{argsBy};
-ghost use Rattle.spans.specs.Spans.{anyRow, spanOf, askedBy, isDone, namedIn, named};
+ghost use Rattle.spans.specs.Spans.{anyRow, spanOf, askedBy, isDone, namedIn, named, overPage, asksOver, isVerdict, asksFor};
 use calls::Made;
 use judgements::Answer;
 use judgements::Row;
@@ -10,6 +10,7 @@ use pages::Place;
 use pages::Window;
 use parsing::Frame;
 use parsing::Status;
+use rules::PAGE_SIZE;
 
 // Some pages of the window, from the first one's place on.
 pub enum Span {
@@ -110,4 +111,65 @@ pub fn named(w: Window, frame: Frame, x: &[u64; 8], came: Came) -> Span
             Span::NoPages
         }
     }
+}
+
+// Whether an address of so many pages, from `start` on, lies in the page that holds this one. No sum is made that could wrap.
+fn over_page(address: u64, start: u64, count: u64) -> bool
+    ensures { λ r. ⌜ r ≡ overPage address start count ⌝ }
+{
+    if count == 0 {
+        return false;
+    }
+    let page = address / PAGE_SIZE;
+    if page < start / PAGE_SIZE {
+        return false;
+    }
+    if page < count {
+        return true;
+    }
+    (page - count) * PAGE_SIZE < start
+}
+
+// Whether a call asks for the transfer of an address in that page, wherever it lies.
+fn asks_over(address: u64, x: &[u64; 8]) -> bool
+    ensures { λ r. ⌜ r ≡ asksOver address (now (x .entry)) ⌝ }
+{
+    let q = judging::read_call(x);
+    let a = q.args;
+    let Row::Is(t) = any_row(x, q.key) else {
+        return false;
+    };
+    over_page(address, a.x1, t.count)
+}
+
+// Whether a call was granted or refused, and not handed over.
+fn is_verdict(a: Answer) -> bool
+    ensures { λ r. ⌜ r ≡ isVerdict a ⌝ }
+{
+    match a {
+        Answer::Version => false,
+        Answer::PowerVersion => false,
+        Answer::Done => true,
+        Answer::On => false,
+        Answer::Off => false,
+        Answer::Pending => false,
+        Answer::Owns(is) => false,
+        Answer::Leads { phys, attr } => false,
+        Answer::Count(n) => false,
+        Answer::Silent => false,
+        Answer::No(r) => true,
+    }
+}
+
+// Whether a call with this answer asks for the page of the window that holds the address.
+pub fn asks_for(p: Place, address: u64, x: &[u64; 8], a: Answer) -> bool
+    ensures { λ r. ⌜ r ≡ asksFor p address (now (x .entry)) a ⌝ }
+{
+    let Place::Page(page) = p else {
+        return false;
+    };
+    if is_verdict(a) {
+        return asks_over(address, x);
+    }
+    false
 }

@@ -34,7 +34,7 @@ use Rattle.frames.specs.Frames.{Machine, framed}
 use Rattle.outcomes.specs.Outcomes.{came}
 use Rattle.outcomes.specs.declared.Came.{Came}
 use Rattle.outcomes.specs.declared.Came.the-variants.{Told, Called}
-use Rattle.spans.specs.Spans.{spanOf, askedBy, isDone, named}
+use Rattle.spans.specs.Spans.{spanOf, isDone, named, asksFor}
 use Rattle.spans.specs.declared.Span.{Span}
 use Rattle.spans.specs.declared.Span.the-variants.{Pages, NoPages}
 use Rattle.tracing.specs.Traced.{Kept, afterLine, tracedLine}
@@ -123,24 +123,24 @@ module _ (w : Window) (f : Frame) (xs turns lists : List ℕ) (s : Span) where
 pub ruleset by-frames = (by-site, by-entry, by-name, by-call, by-arrival, by-refused)
 
 -- ---- a line about a page
-module _ (p : Place) (w : Window) (f : Frame) (xs : List ℕ) (c : Came) (mapped : Span) (r : Bool) where
-  pub about-told : (why : Status) (s : Span) → c ≡ Told why → s ≡ named w f xs c → r ≡ holds s p → r ≡ about p w f xs c mapped
+module _ (p : Place) (address : ℕ) (w : Window) (f : Frame) (xs : List ℕ) (c : Came) (mapped : Span) (r : Bool) where
+  pub about-told : (why : Status) (s : Span) → c ≡ Told why → s ≡ named w f xs c → r ≡ holds s p → r ≡ about p address w f xs c mapped
   unfolding about
   about-told why s e g h = rw e (rw (g, e) at h)
 
-  module _ (made : Made) (e : c ≡ Called made) (s : Span) (g : s ≡ askedBy w xs) (b : Bool) (h : b ≡ holds s p) where
-    pub about-asked : b ≡ true → r ≡ true → r ≡ about p w f xs c mapped
+  module _ (made : Made) (e : c ≡ Called made) (b : Bool) (g : b ≡ asksFor p address xs (made .answer)) where
+    pub about-asked : b ≡ true → r ≡ true → r ≡ about p address w f xs c mapped
     unfolding about
-    about-asked y z = rw e (z ∙ sym (first-or (holds (askedBy w xs) p) _ (sym (rw g at h) ∙ y)))
+    about-asked y z = rw e (z ∙ sym (first-or (asksFor p address xs (made .answer)) _ (sym g ∙ y)))
 
     module _ (d : Bool) (i : d ≡ isDone (made .answer)) (n : b ≡ false) where
-      pub about-mapped : d ≡ true → r ≡ holds mapped p → r ≡ about p w f xs c mapped
+      pub about-mapped : d ≡ true → r ≡ holds mapped p → r ≡ about p address w f xs c mapped
       unfolding about
-      about-mapped y z = let k : holds (askedBy w xs) p ≡ false = sym (rw g at h) ∙ n in let j : isDone (made .answer) ≡ true = sym i ∙ y in rw (e, k, j) z
+      about-mapped y z = let k : asksFor p address xs (made .answer) ≡ false = sym g ∙ n in let j : isDone (made .answer) ≡ true = sym i ∙ y in rw (e, k, j) z
 
-      pub about-nothing : d ≡ false → r ≡ false → r ≡ about p w f xs c mapped
+      pub about-nothing : d ≡ false → r ≡ false → r ≡ about p address w f xs c mapped
       unfolding about
-      about-nothing y z = let k : holds (askedBy w xs) p ≡ false = sym (rw g at h) ∙ n in let j : isDone (made .answer) ≡ false = sym i ∙ y in rw (e, k, j) z
+      about-nothing y z = let k : asksFor p address xs (made .answer) ≡ false = sym g ∙ n in let j : isDone (made .answer) ≡ false = sym i ∙ y in rw (e, k, j) z
 
 pub ruleset abouts = (about-told, about-asked, about-mapped, about-nothing)
 
@@ -150,7 +150,7 @@ module _ (v : View) (w : Window) (f : Frame) (xs : List ℕ) (c : Came) (mapped 
   unfolding shows
   shows-all e h = rw e h
 
-  pub shows-page : (address : ℕ) (p : Place) → v ≡ View.Page address → p ≡ pageOf w address → r ≡ about p w f xs c mapped → r ≡ shows v w f xs c mapped
+  pub shows-page : (address : ℕ) (p : Place) → v ≡ View.Page address → p ≡ pageOf w address → r ≡ about p address w f xs c mapped → r ≡ shows v w f xs c mapped
   unfolding shows
   shows-page address p e g h = rw e (rw g at h)
 

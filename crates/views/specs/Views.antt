@@ -25,7 +25,7 @@ use Rattle.frames.specs.Frames.{Machine}
 use Rattle.outcomes.specs.Outcomes.{came}
 use Rattle.outcomes.specs.declared.Came.{Came}
 use Rattle.outcomes.specs.declared.Came.the-variants.{Told, Called}
-use Rattle.spans.specs.Spans.{spanOf, askedBy, isDone, named}
+use Rattle.spans.specs.Spans.{spanOf, isDone, named, asksFor}
 use Rattle.spans.specs.declared.Span.{Span}
 use Rattle.spans.specs.declared.Span.the-variants.{Pages, NoPages}
 use Rattle.tracing.specs.Traced.{Kept, afterLine}
@@ -63,14 +63,14 @@ mappedBy w (Frame.Refused why) xs turns lists = NoPages
 
 -- ---- the lines about a page
 -- those that name its owner, those that ask for its transfer, whether it is granted or refused, and those that map or unmap it
-unfoldable pub about : Place → Window → Frame → List ℕ → Came → Span → Bool
-about p w f xs (Told why) mapped = holds (named w f xs (Told why)) p
-about p w f xs (Called made) mapped = holds (askedBy w xs) p || (isDone (made .answer) && holds mapped p)
+unfoldable pub about : Place → ℕ → Window → Frame → List ℕ → Came → Span → Bool
+about p address w f xs (Told why) mapped = holds (named w f xs (Told why)) p
+about p address w f xs (Called made) mapped = asksFor p address xs (made .answer) || (isDone (made .answer) && holds mapped p)
 
 -- ---- what is shown
 unfoldable pub shows : View → Window → Frame → List ℕ → Came → Span → Bool
 shows View.All w f xs c mapped = true
-shows (View.Page address) w f xs c mapped = about (pageOf w address) w f xs c mapped
+shows (View.Page address) w f xs c mapped = about (pageOf w address) address w f xs c mapped
 shows View.Map w f xs c mapped = false
 
 -- a line, as the machine that it meets has it

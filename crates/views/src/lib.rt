@@ -98,16 +98,24 @@ fn mapped_by(w: Window, frame: Frame, x: &[u64; 8], turns: &Turns, lists: &Lists
 }
 
 // Whether a line is about a page: it names its owner, asks for its transfer, or maps or unmaps it.
-fn is_about(p: Place, w: Window, frame: Frame, x: &[u64; 8], came: Came, mapped: Span) -> bool
-    ensures { λ r. ⌜ r ≡ about p w frame (now (x .entry)) came mapped ⌝ }
+fn is_about(
+    p: Place,
+    address: u64,
+    w: Window,
+    frame: Frame,
+    x: &[u64; 8],
+    came: Came,
+    mapped: Span,
+) -> bool
+    ensures { λ r. ⌜ r ≡ about p address w frame (now (x .entry)) came mapped ⌝ }
 {
     let Came::Called(made) = came else {
         return holds(spans::named(w, frame, x, came), p);
     };
-    if holds(spans::asked_by(w, x), p) {
+    let answer = made.answer;
+    if spans::asks_for(p, address, x, answer) {
         return true;
     }
-    let answer = made.answer;
     if spans::is_done(answer) {
         return holds(mapped, p);
     }
@@ -119,7 +127,7 @@ fn is_shown(view: View, w: Window, frame: Frame, x: &[u64; 8], came: Came, mappe
 {
     match view {
         View::All => true,
-        View::Page(address) => is_about(w.page_of(address), w, frame, x, came, mapped),
+        View::Page(address) => is_about(w.page_of(address), address, w, frame, x, came, mapped),
         View::Map => false,
     }
 }

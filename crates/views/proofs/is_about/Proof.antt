@@ -1,8 +1,8 @@
 -- Each way out is a case of the definition.
 use borrow.Author.Needs.{needs}
-use Rattle.views.specs.Laws.{abouts}
 use Rattle.views.proofs.is_about.Statement.{statement}
 use Rattle.views.proofs.is_about.Tie as tie
+use Rattle.views.specs.Laws.{abouts}
 
 enum-known-came : tie.Need-enum-known-came
 enum-known-came c = search needs
@@ -19,11 +19,8 @@ holds-requires c κs = search needs
 returns : tie.Need-returns
 returns c = search (abouts, needs)
 
-asked-by-requires : tie.Need-asked-by-requires
-asked-by-requires c κs = search needs
-
-holds-requires-2 : tie.Need-holds-requires-2
-holds-requires-2 c κs = search needs
+asks-for-requires : tie.Need-asks-for-requires
+asks-for-requires c κs = search needs
 
 returns-2 : tie.Need-returns-2
 returns-2 c = search (abouts, needs)
@@ -31,8 +28,8 @@ returns-2 c = search (abouts, needs)
 is-done-requires : tie.Need-is-done-requires
 is-done-requires c κs = search needs
 
-holds-requires-3 : tie.Need-holds-requires-3
-holds-requires-3 c κs = search needs
+holds-requires-2 : tie.Need-holds-requires-2
+holds-requires-2 c κs = search needs
 
 returns-3 : tie.Need-returns-3
 returns-3 c = search (abouts, needs)
@@ -49,10 +46,9 @@ is-about-spec =
     named-requires
     holds-requires
     returns
-    asked-by-requires
-    holds-requires-2
+    asks-for-requires
     returns-2
     is-done-requires
-    holds-requires-3
+    holds-requires-2
     returns-3
     returns-4)
