@@ -26,15 +26,31 @@ HANDLERS = ["architecture", "board", "standard", "trusted system"]
 KINDS = ["yielding", "fast"]
 ATTRIBUTES = ["read only", "writable", "executable"]
 STATUS = re.compile(r"(accepted|accepted: ON in Normal|refused (7[1-5])(: [a-zA-Z ]+)?)$")
-REFUSAL = re.compile(r"refused -(\d+), [a-zA-Z0-9 ']+$")
-ANSWER = re.compile(r"answered (\d+)(, version \d\.\d|, ON|, OFF|, pending|, yes|, no)?$")
-LEADS = re.compile(r"leads to ([0-9a-f]+), (read only|writable|executable)$")
+REFUSAL = re.compile(r"refused -(\d+), ([a-zA-Z0-9 ']+)$")
+ANSWER = re.compile(r"answered (\d+)(?:, (ON|OFF|pending|yes|no|known))?$")
+VERSION = re.compile(r"answered version (\d)\.(\d)$")
+LEADS = re.compile(r"to ([0-9a-f]+), (read only|writable|executable)$")
 RUNS = re.compile(r"(Secure|Normal|Realm) runs now$")
 LINE = re.compile(r" *(\d+) (set-up|no frame|core (\d+)(?: (Root|Secure|Normal|Realm):)?) +(.*)$")
 
 
+REASONS = {
+    1: ["not served", "overlaps another"], 2: ["no valid argument"], 3: ["not the giver's"], 4: ["already ON"],
+    5: ["already pending", "no pages asked for"], 6: ["a page is mapped"], 9: ["bad start address"], 12: ["16 mappings held"],
+    13: ["not its own page"], 14: ["leads nowhere"], 22: ["not well formed", "no such mapping"], 34: ["past the limits"],
+}
+MEANINGS = {"ON": (0x84000004, 0), "OFF": (0x84000004, 1), "pending": (0x84000004, 2), "yes": (0xC2000012, 1), "no": (0xC2000012, 0)}
+VERSIONS = {0x80000000: (1, 3), 0x84000000: (1, 1)}
+QUESTIONS = (0x80000001, 0x8400000A)
+
+
 def address(x):
-    return "%08x" % x if x < 2**32 else "%016x" % x
+    return "%0*x" % (8 if x < 2**32 else 12 if x < 2**48 else 16, x)
+
+
+def key_of(numbers):
+    key = numbers[0] % 2**32
+    return key & ~0x10000 if key >> 31 else key
 
 
 def many(n, one):
@@ -45,11 +61,9 @@ def named(n, names, other):
     return names[n] if n < len(names) else f"{other} {n}"
 
 
-def call_asked(numbers):
-    """What a call asks, from its numbers alone."""
-    key = numbers[0] % 2**32
-    if key >> 31:
-        key &= ~0x10000
+def call_asked(numbers, handed):
+    """What a call asks, from its numbers, and whether it was handed over."""
+    key = key_of(numbers)
     x = [n if key >> 30 & 1 else n % 2**32 for n in numbers]
     page = address(x[1])
     words = {
@@ -59,17 +73,18 @@ def call_asked(numbers):
         0x8400000A: f"tell whether core power knows {page}", 0xC40001B0: f"take the page at {page}", 0xC40001B1: f"give back the page at {page}",
         0xC2000010: f"take {many(x[2], 'page')} from {page}", 0xC2000011: f"give back {many(x[2], 'page')} from {page}",
         0xC2000012: f"tell whether it owns {page}", 0xC2000022: f"tell where this address leads: {page}",
-        0xC2000020: f"map {page} at {address(x[2])}, {x[3]} bytes, {named(x[4], ATTRIBUTES, 'attributes')}",
-        0xC2000021: f"unmap {page}, {x[2]} bytes", 0xC2000030: "count the cores that are ON", 0xC400018F: "finish", 0xF2000000: "finish",
+        0xC2000020: f"map {page} at {address(x[2])}, {many(x[3], 'byte')}, {named(x[4], ATTRIBUTES, 'attributes')}",
+        0xC2000021: f"unmap {page}, {many(x[2], 'byte')}", 0xC2000030: "count the cores that are ON",
+        0xC400018F: "finish with " + " ".join(map(address, x[1:6])), 0xF2000000: "finish with " + " ".join(map(address, x[1:5])),
     }
     words[0xC4000003], words[0xC4000004] = words[0x84000003], words[0x84000004]
-    return words.get(key) or f"call {address(key)} with {page} {address(x[2])} {address(x[3])}"
+    return not handed and words.get(key) or f"call {address(key)} with {page} {address(x[2])} {address(x[3])}"
 
 
-def asked(line, status):
-    """Who speaks, on which core, and what is asked, from the bytes of a line and its status where it has one."""
+def asked(line, status, handed):
+    """Who speaks, on which core, and what is asked, from the bytes of a line, its status where it has one, and whether it was handed over."""
     if status in (0x71, 0x72):
-        return "no frame", None, ["not 1 to 66 pairs of hexadecimal digits", "of an unknown kind, or a wrong length"][status - 0x71]
+        return "no frame", None, ["not 1 to 66 pairs of digits 0 to 9 and a to f", "of an unknown kind, or a wrong length"][status - 0x71]
     frame = bytes.fromhex(line.decode())
     whole = lambda at, size: int.from_bytes(frame[at:at + size], "big")
     if frame[0] == 0x11:
@@ -80,10 +95,10 @@ def asked(line, status):
         return "set-up", None, f"{many(whole(3, 2), 'page')} from page {whole(1, 2)} for {named(frame[5], OWNERS, 'owner')}"
     if frame[0] == 0x21:
         return "core", frame[1], "arrives"
-    return "core", frame[1], call_asked([whole(2 + 8 * i, 8) for i in range(8)])
+    return "core", frame[1], call_asked([whole(2 + 8 * i, 8) for i in range(8)], handed)
 
 
-def came(text, answer, wide, caller):
+def came(text, answer, key, caller):
     """Whether what came of a line is the monitor's answer, a status or (core, world, x0 to x3)."""
     found = STATUS.match(text)
     if found or isinstance(answer, int):
@@ -98,14 +113,20 @@ def came(text, answer, wide, caller):
         return False
     found = REFUSAL.match(text)
     if found:
-        return x[0] == 2 ** (64 if wide else 32) - int(found[1])
+        return x[0] == 2 ** (64 if key >> 30 & 1 else 32) - int(found[1]) and found[2] in REASONS[int(found[1])]
     found = LEADS.match(text)
     if found:
         return x[:3] == [0, int(found[1], 16), ATTRIBUTES.index(found[2])]
+    found = VERSION.match(text)
+    if found:
+        major, minor = int(found[1]), int(found[2])
+        return x[0] == major * 2**16 + minor and VERSIONS[key] == (major, minor)
     found = ANSWER.match(text)
     if found:
-        return x[0] == (int(found[1], 16) if found[2] and "version" in found[2] else int(found[1]))
-    return text == "granted" and x[0] == 0
+        asks = key & ~0x40000000 if key in (0xC4000003, 0xC4000004) else key
+        right = key in QUESTIONS and found[1] == "0" if found[2] == "known" else MEANINGS[found[2]] == (asks, x[0]) if found[2] else key == 0xC2000030
+        return x[0] == int(found[1]) and right
+    return text == "granted" and x[0] == 0 and key not in QUESTIONS
 
 
 class Reader:
@@ -118,7 +139,9 @@ class Reader:
     def right(self, number, line, words, reply):
         reply = bytes.fromhex(reply.decode())
         answer = reply[1] if reply[0] == 0xA0 else (reply[1], reply[2], [int.from_bytes(reply[3 + 8 * i:11 + 8 * i], "big") for i in range(4)])
-        who, core, what = asked(line, answer if isinstance(answer, int) else None)
+        status = answer if isinstance(answer, int) else None
+        handed = status is None and self.world[answer[0]] == 2 and answer[1] in (1, 3)
+        who, core, what = asked(line, status, handed)
         found = LINE.match(words.decode())
         if not found or int(found[1]) != number or not found[2].startswith(who) or (core is not None and int(found[3]) != core):
             return False
@@ -128,8 +151,8 @@ class Reader:
         text = found[5][len(what):].lstrip()
         if len(words) < 101 and len(what) < 49 and core in (None, *range(8)) and number < 10000 and words[69:70] != b" ":
             return False
-        wide = line[4:20] and int(line[4:20], 16) >> 30 & 1 if core is not None and what != "arrives" else 0
-        if not came(text, answer, wide, caller):
+        key = key_of([int(line[4:20], 16)]) if core is not None and what != "arrives" else None
+        if not came(text, answer, key, caller):
             return False
         if caller is not None and answer[1] != 0xFF:
             self.world[core] = answer[1]

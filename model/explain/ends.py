@@ -24,7 +24,7 @@ SINGLE, SEVERAL = (0xC40001B0, 0xC40001B1), (0xC2000010, 0xC2000011)
 
 
 def address(x):
-    return "%08x" % x if x < 2**32 else "%016x" % x
+    return "%0*x" % (8 if x < 2**32 else 12 if x < 2**48 else 16, x)
 
 
 def many(n):

@@ -3,8 +3,7 @@ ghost use mathlib.Core.Path.{_≡_};
 ghost use Prim.Native.Nat.{_<_};
 ghost use lib.ListN.{getD};
 ghost use Rattle.asking.specs.Names.{namedFrom, named, counted};
-ghost use Rattle.asking.specs.Forms.{keyAt, rowAt, form, register, valued, slot, slots, asked};
-use judgements::Args;
+ghost use Rattle.asking.specs.Forms.{keyAt, rowAt, form, register, valued, slot, slots, asked, doneWord};
 use judgements::names;
 use phrases::Piece;
 use phrases::Sentence;
@@ -40,6 +39,16 @@ pub enum Known {
     Handler,
     Attributes,
     Kind,
+}
+
+// What a call is told by: its key, and its arguments as it reads them. The fifth is Realm's finish's alone, and whole.
+pub struct Given {
+    pub key: u64,
+    pub x1: u64,
+    pub x2: u64,
+    pub x3: u64,
+    pub x4: u64,
+    pub x5: u64,
 }
 
 // How an argument is told: not at all, by its word alone, or behind its word in decimal digits, in hexadecimal digits, as so
@@ -86,22 +95,86 @@ const KEYS: [u64; ROWS + 1] = [
     0,
 ];
 
-// For each of up to four arguments its word, its register, and how it is told. Register 0 holds the key.
-const FORMS: [[u64; 12]; ROWS + 1] = [
-    [ASK_CALLS, 0, ALONE, 0, 0, 0, 0, 0, 0, 0, 0, 0],
-    [ASK_KNOWN, 1, HEX, 0, 0, 0, 0, 0, 0, 0, 0, 0],
-    [ASK_POWER, 0, ALONE, 0, 0, 0, 0, 0, 0, 0, 0, 0],
-    [TURN_OFF, 0, ALONE, 0, 0, 0, 0, 0, 0, 0, 0, 0],
-    [START, 1, DECIMAL, AT, 2, HEX, CONTEXT, 3, HEX, 0, 0, 0],
-    [START, 1, DECIMAL, AT, 2, HEX, CONTEXT, 3, HEX, 0, 0, 0],
-    [ASK_STATE, 1, DECIMAL, LEVEL, 2, DECIMAL, 0, 0, 0, 0, 0, 0],
-    [ASK_STATE, 1, DECIMAL, LEVEL, 2, DECIMAL, 0, 0, 0, 0, 0, 0],
-    [ASK_POWERS, 1, HEX, 0, 0, 0, 0, 0, 0, 0, 0, 0],
-    [TAKE_PAGE, 1, HEX, 0, 0, 0, 0, 0, 0, 0, 0, 0],
-    [GIVE_PAGE, 1, HEX, 0, 0, 0, 0, 0, 0, 0, 0, 0],
-    [TAKE, 2, AS_PAGES, FROM, 1, HEX, 0, 0, 0, 0, 0, 0],
-    [GIVE, 2, AS_PAGES, FROM, 1, HEX, 0, 0, 0, 0, 0, 0],
-    [ASK_OWNER, 1, HEX, 0, 0, 0, 0, 0, 0, 0, 0, 0],
+// For each of up to five arguments its word, its register, and how it is told. Register 0 holds the key.
+const FORMS: [[u64; 15]; ROWS + 1] = [
+    [ASK_CALLS, 0, ALONE, 0, 0, 0, 0, 0, 0, 0, 0, 0, 0, 0, 0],
+    [ASK_KNOWN, 1, HEX, 0, 0, 0, 0, 0, 0, 0, 0, 0, 0, 0, 0],
+    [ASK_POWER, 0, ALONE, 0, 0, 0, 0, 0, 0, 0, 0, 0, 0, 0, 0],
+    [TURN_OFF, 0, ALONE, 0, 0, 0, 0, 0, 0, 0, 0, 0, 0, 0, 0],
+    [
+        START,
+        1,
+        DECIMAL,
+        AT,
+        2,
+        HEX,
+        CONTEXT,
+        3,
+        HEX,
+        0,
+        0,
+        0,
+        0,
+        0,
+        0,
+    ],
+    [
+        START,
+        1,
+        DECIMAL,
+        AT,
+        2,
+        HEX,
+        CONTEXT,
+        3,
+        HEX,
+        0,
+        0,
+        0,
+        0,
+        0,
+        0,
+    ],
+    [
+        ASK_STATE,
+        1,
+        DECIMAL,
+        LEVEL,
+        2,
+        DECIMAL,
+        0,
+        0,
+        0,
+        0,
+        0,
+        0,
+        0,
+        0,
+        0,
+    ],
+    [
+        ASK_STATE,
+        1,
+        DECIMAL,
+        LEVEL,
+        2,
+        DECIMAL,
+        0,
+        0,
+        0,
+        0,
+        0,
+        0,
+        0,
+        0,
+        0,
+    ],
+    [ASK_POWERS, 1, HEX, 0, 0, 0, 0, 0, 0, 0, 0, 0, 0, 0, 0],
+    [TAKE_PAGE, 1, HEX, 0, 0, 0, 0, 0, 0, 0, 0, 0, 0, 0, 0],
+    [GIVE_PAGE, 1, HEX, 0, 0, 0, 0, 0, 0, 0, 0, 0, 0, 0, 0],
+    [TAKE, 2, AS_PAGES, FROM, 1, HEX, 0, 0, 0, 0, 0, 0, 0, 0, 0],
+    [GIVE, 2, AS_PAGES, FROM, 1, HEX, 0, 0, 0, 0, 0, 0, 0, 0, 0],
+    [ASK_OWNER, 1, HEX, 0, 0, 0, 0, 0, 0, 0, 0, 0, 0, 0, 0],
     [
         MAP,
         1,
@@ -115,13 +188,64 @@ const FORMS: [[u64; 12]; ROWS + 1] = [
         COMMA,
         4,
         AS_ATTRS,
+        0,
+        0,
+        0,
     ],
-    [UNMAP, 1, HEX, COMMA, 2, AS_BYTES, 0, 0, 0, 0, 0, 0],
-    [ASK_WHERE, 1, HEX, 0, 0, 0, 0, 0, 0, 0, 0, 0],
-    [COUNT, 0, ALONE, 0, 0, 0, 0, 0, 0, 0, 0, 0],
-    [FINISH, 0, ALONE, 0, 0, 0, 0, 0, 0, 0, 0, 0],
-    [FINISH, 0, ALONE, 0, 0, 0, 0, 0, 0, 0, 0, 0],
-    [OTHER, 0, HEX, CONTEXT, 1, HEX, BLANK, 2, HEX, BLANK, 3, HEX],
+    [UNMAP, 1, HEX, COMMA, 2, AS_BYTES, 0, 0, 0, 0, 0, 0, 0, 0, 0],
+    [ASK_WHERE, 1, HEX, 0, 0, 0, 0, 0, 0, 0, 0, 0, 0, 0, 0],
+    [COUNT, 0, ALONE, 0, 0, 0, 0, 0, 0, 0, 0, 0, 0, 0, 0],
+    [
+        FINISH,
+        1,
+        HEX,
+        BLANK,
+        2,
+        HEX,
+        BLANK,
+        3,
+        HEX,
+        BLANK,
+        4,
+        HEX,
+        BLANK,
+        5,
+        HEX,
+    ],
+    [
+        FINISH,
+        1,
+        HEX,
+        BLANK,
+        2,
+        HEX,
+        BLANK,
+        3,
+        HEX,
+        BLANK,
+        4,
+        HEX,
+        0,
+        0,
+        0,
+    ],
+    [
+        OTHER,
+        0,
+        HEX,
+        CONTEXT,
+        1,
+        HEX,
+        BLANK,
+        2,
+        HEX,
+        BLANK,
+        3,
+        HEX,
+        0,
+        0,
+        0,
+    ],
 ];
 
 // A number by its name, where it is one of the first `count`, and else behind the word for such numbers.
@@ -167,7 +291,7 @@ fn key_at(k: usize) -> u64
 }
 
 // Row k of the table.
-fn row_at(k: usize) -> [u64; 12]
+fn row_at(k: usize) -> [u64; 15]
     requires { ⌜ k < 21 ⌝ }
     ensures { λ r. ⌜ r ≡ rowAt k ⌝ }
 {
@@ -175,7 +299,7 @@ fn row_at(k: usize) -> [u64; 12]
 }
 
 // The row of a key, or that of all other calls.
-fn form(key: u64) -> [u64; 12]
+fn form(key: u64) -> [u64; 15]
     ensures { λ r. ⌜ r ≡ form key ⌝ }
 {
     let mut k: usize = 0;
@@ -191,15 +315,16 @@ fn form(key: u64) -> [u64; 12]
 }
 
 // What stands in a register.
-fn register(i: u64, key: u64, a: Args) -> u64
-    ensures { λ r. ⌜ r ≡ register i key a ⌝ }
+fn register(i: u64, g: Given) -> u64
+    ensures { λ r. ⌜ r ≡ register i g ⌝ }
 {
     match i {
-        0 => key,
-        1 => a.x1,
-        2 => a.x2,
-        3 => a.x3,
-        _ => a.x4,
+        0 => g.key,
+        1 => g.x1,
+        2 => g.x2,
+        3 => g.x3,
+        4 => g.x4,
+        _ => g.x5,
     }
 }
 
@@ -212,39 +337,63 @@ fn value(s: Sentence, how: u64, x: u64) -> Sentence
         DECIMAL => s.with(Piece::Number(x)),
         HEX => s.with(Piece::Hex(x)),
         AS_PAGES => count(s, x, w::PAGE, w::PAGES),
-        AS_BYTES => s.with(Piece::Number(x)).with(Piece::Word(w::BYTES)),
+        AS_BYTES => count(s, x, w::BYTE, w::BYTES),
         _ => name(s, Known::Attributes, x),
     }
 }
 
 // One argument, behind its word.
-fn argument(s: Sentence, word: u64, i: u64, how: u64, key: u64, a: Args) -> Sentence
-    ensures { λ r. ⌜ r ≡ slot s word i how key a ⌝ }
+fn argument(s: Sentence, word: u64, i: u64, how: u64, g: Given) -> Sentence
+    ensures { λ r. ⌜ r ≡ slot s word i how g ⌝ }
 {
     if how == NONE {
         return s;
     }
-    let x = register(i, key, a);
+    let x = register(i, g);
     value(s.with(Piece::Word(word)), how, x)
 }
 
 // All arguments of a row.
-fn arguments(s: Sentence, row: [u64; 12], key: u64, a: Args) -> Sentence
-    ensures { λ r. ⌜ r ≡ slots s row key a ⌝ }
+fn arguments(s: Sentence, row: [u64; 15], g: Given) -> Sentence
+    ensures { λ r. ⌜ r ≡ slots s row g ⌝ }
 {
-    let s1 = argument(s, row[0], row[1], row[2], key, a);
-    let s2 = argument(s1, row[3], row[4], row[5], key, a);
-    let s3 = argument(s2, row[6], row[7], row[8], key, a);
-    argument(s3, row[9], row[10], row[11], key, a)
+    let s1 = argument(s, row[0], row[1], row[2], g);
+    let s2 = argument(s1, row[3], row[4], row[5], g);
+    let s3 = argument(s2, row[6], row[7], row[8], g);
+    let s4 = argument(s3, row[9], row[10], row[11], g);
+    argument(s4, row[12], row[13], row[14], g)
 }
 
-// What a call with these eight numbers asks.
-pub fn ask(s: Sentence, x: &[u64; 8]) -> Sentence
-    ensures { λ r. ⌜ r ≡ asked s (now (x .entry)) ⌝ }
+// What a call with these eight numbers asks: by its number alone where it was handed over, and else by the row of its key.
+pub fn ask(s: Sentence, handed: bool, x: &[u64; 8]) -> Sentence
+    ensures { λ r. ⌜ r ≡ asked s handed (now (x .entry)) ⌝ }
 {
     let q = judging::read_call(x);
-    let key = q.key as u64;
-    let row = form(key);
-    let args = q.args;
-    arguments(s, row, key, args)
+    let a = q.args;
+    let g = Given {
+        key: q.key as u64,
+        x1: a.x1,
+        x2: a.x2,
+        x3: a.x3,
+        x4: a.x4,
+        x5: x[5],
+    };
+    if handed {
+        return arguments(s, row_at(ROWS), g);
+    }
+    arguments(s, form(g.key), g)
+}
+
+// How such a call is told to be granted: of a question whether a call is known, that it is.
+pub fn done_word(x: &[u64; 8]) -> u64
+    ensures { λ r. ⌜ r ≡ doneWord (now (x .entry)) ⌝ }
+{
+    let q = judging::read_call(x);
+    if q.key == names::FEATURES {
+        return w::KNOWN;
+    }
+    if q.key == names::POWER_FEATURES {
+        return w::KNOWN;
+    }
+    w::GRANTED
 }

@@ -9,7 +9,6 @@ use lib.ListN.{getD}
 use borrow.Author.Tests.{leb-true}
 use Rattle.rules.specs.Choice.{pick, chosen, chosen-two, left-true, right-true}
 use Rattle.tools.specs.Search.{first}
-use Rattle.judgements.specs.declared.Args.{Args}
 use Rattle.judgements.specs.declared.Answer.{Answer}
 use Rattle.judgements.specs.declared.Answer.the-variants as Answer
 use Rattle.parsing.specs.declared.Frame.{Frame}
@@ -22,6 +21,7 @@ use Rattle.phrases.specs.declared.Piece.the-variants.{Word, Number, Right, Hex,
 use Rattle.phrases.specs.declared.Sentence.{Sentence}
 use Rattle.asking.specs.Names.{namedFrom, named, counted}
 use Rattle.asking.specs.Forms.{forms, rowAt, isForm, form, register, valued, slot, slots, asked}
+use Rattle.asking.specs.declared.Given.{Given}
 use Rattle.asking.specs.declared.Known.{Known}
 use Rattle.asking.specs.declared.Known.the-variants.{World, Handler, Attributes, Kind}
 use Rattle.telling.specs.Came.{turned, answered, cameSaid}
@@ -61,15 +61,15 @@ things n s x one′ many h = one (suc n) _ _ (one n s _ h)
 unfoldable weight : ℕ → ℕ
 weight how = pick (eqb how 0) 0 (pick (eqb how 1) 1 (pick (eqb how 2) 2 (pick (eqb how 3) 2 3)))
 
-slot-has : (n : ℕ) (s : Sentence) (word i how key : ℕ) (a : Args) → Has n s → Has (n + weight how) (slot s word i how key a)
+slot-has : (n : ℕ) (s : Sentence) (word i how : ℕ) (g : Given) → Has n s → Has (n + weight how) (slot s word i how g)
 unfolding slot valued weight
-slot-has n s word i how key a h =
+slot-has n s word i how g h =
     let z0 : n + 0 ≡ n = omega arith in
     let z1 : n + 1 ≡ suc n = omega arith in
     let z2 : n + 2 ≡ suc (suc n) = omega arith in
     let z3 : n + 3 ≡ suc (suc (suc n)) = omega arith in
     let t = s ▹ Word word in
-    let x = register i key a in
+    let x = register i g in
     let u = one n s (Word word) h in
     let P : Sentence → ℕ → Type 0 = λ r w. Has (n + w) r in
     chosen-two P (eqb how 0) _ _ _ _ (λ y. rw z0 h)
@@ -78,19 +78,20 @@ slot-has n s word i how key a h =
     (λ y. chosen-two P (eqb how 3) _ _ _ _ (λ y. rw z2 (one (suc n) t (Hex x) u))
     (λ y. rw z3
     (chosen (Has (suc (suc (suc n)))) (eqb how 4) _ _ (λ y. things (suc n) t x _ _ u)
-    (λ y. chosen (Has (suc (suc (suc n)))) (eqb how 5) _ _ (λ y. one (suc (suc n)) _ _ (one (suc n) t _ u)) (λ y. name (suc n) t Attributes x u)))))))
+    (λ y. chosen (Has (suc (suc (suc n)))) (eqb how 5) _ _ (λ y. things (suc n) t x _ _ u) (λ y. name (suc n) t Attributes x u)))))))
 
 -- all arguments of a row
 unfoldable heavy : List ℕ → ℕ
-heavy r = weight (getD r 2 0) + (weight (getD r 5 0) + (weight (getD r 8 0) + weight (getD r 11 0)))
+heavy r = weight (getD r 2 0) + (weight (getD r 5 0) + (weight (getD r 8 0) + (weight (getD r 11 0) + weight (getD r 14 0))))
 
-slots-has : (n : ℕ) (s : Sentence) (r : List ℕ) (key : ℕ) (a : Args) → heavy r ≤ 10 → Has n s → Has (n + 10) (slots s r key a)
+slots-has : (n : ℕ) (s : Sentence) (r : List ℕ) (g : Given) → heavy r ≤ 10 → Has n s → Has (n + 10) (slots s r g)
 unfolding slots heavy
-slots-has n s r key a few h =
-    let last = slot-has _ _ (getD r 9 0) (getD r 10 0) (getD r 11 0) key a
-    (slot-has _ _ (getD r 6 0) (getD r 7 0) (getD r 8 0) key a
-    (slot-has _ _ (getD r 3 0) (getD r 4 0) (getD r 5 0) key a
-    (slot-has n s (getD r 0 0) (getD r 1 0) (getD r 2 0) key a h))) in
+slots-has n s r g few h =
+    let last = slot-has _ _ (getD r 12 0) (getD r 13 0) (getD r 14 0) g
+    (slot-has _ _ (getD r 9 0) (getD r 10 0) (getD r 11 0) g
+    (slot-has _ _ (getD r 6 0) (getD r 7 0) (getD r 8 0) g
+    (slot-has _ _ (getD r 3 0) (getD r 4 0) (getD r 5 0) g
+    (slot-has n s (getD r 0 0) (getD r 1 0) (getD r 2 0) g h)))) in
     record { few = omega (arith, last .few, few) }
 
 -- no row of the table is heavier: one test over all
@@ -108,29 +109,33 @@ light-at [] k e = omega arith
 light-at (p ∷ ps) zero e = leb-true _ _ (left-true (leb (heavy (p .1)) 10) (allLight ps) e)
 light-at (p ∷ ps) (suc k) e = light-at ps k (right-true (leb (heavy (p .1)) 10) (allLight ps) e)
 
-asked-has : (n : ℕ) (s : Sentence) (xs : List ℕ) → Has n s → Has (n + 10) (asked s xs)
-unfolding asked form rowAt
-asked-has n s xs h = slots-has n s _ _ _ (light-at forms _ all-light) h
+form-light : (handed : Bool) (key : ℕ) → heavy (pick handed (rowAt 20) (form key)) ≤ 10
+unfolding form rowAt
+form-light handed key = chosen (λ (r : List ℕ). heavy r ≤ 10) handed _ _ (λ y. light-at forms 20 all-light) (λ n. light-at forms _ all-light)
+
+asked-has : (n : ℕ) (s : Sentence) (handed : Bool) (xs : List ℕ) → Has n s → Has (n + 10) (asked s handed xs)
+unfolding asked
+asked-has n s handed xs h = slots-has n s _ _ (form-light handed _) h
 
 -- ---- what came of a frame
-answer-has : (n : ℕ) (s : Sentence) (a : Answer) (now : ℕ) → Has n s → Has (n + 5) (answered s a now)
+answer-has : (n : ℕ) (s : Sentence) (a : Answer) (done now : ℕ) → Has n s → Has (n + 5) (answered s a done now)
 unfolding turned
-answer-has n s Answer.Version now h = within (suc n) (n + 5) _ (one n _ _ h) (omega arith)
-answer-has n s Answer.PowerVersion now h = within (suc n) (n + 5) _ (one n _ _ h) (omega arith)
-answer-has n s Answer.Done now h = within (suc n) (n + 5) _ (one n _ _ h) (omega arith)
-answer-has n s Answer.On now h = within (suc n) (n + 5) _ (one n _ _ h) (omega arith)
-answer-has n s Answer.Off now h = within (suc n) (n + 5) _ (one n _ _ h) (omega arith)
-answer-has n s Answer.Pending now h = within (suc n) (n + 5) _ (one n _ _ h) (omega arith)
-answer-has n s (Answer.Owns b) now h = within (suc n) (n + 5) _ (one n _ _ h) (omega arith)
-answer-has n s (Answer.Leads phys attr) now h = within (suc (suc (suc (suc (suc n))))) (n + 5) _ (name (suc (suc (suc n))) _ Attributes attr (one (suc (suc n)) _ _ (one (suc n) _ _ (one n _ _ h)))) (omega arith)
-answer-has n s (Answer.Count k) now h = within (suc (suc n)) (n + 5) _ (one (suc n) _ _ (one n _ _ h)) (omega arith)
-answer-has n s Answer.Silent now h =
+answer-has n s Answer.Version done now h = within (suc n) (n + 5) _ (one n _ _ h) (omega arith)
+answer-has n s Answer.PowerVersion done now h = within (suc n) (n + 5) _ (one n _ _ h) (omega arith)
+answer-has n s Answer.Done done now h = within (suc n) (n + 5) _ (one n _ _ h) (omega arith)
+answer-has n s Answer.On done now h = within (suc n) (n + 5) _ (one n _ _ h) (omega arith)
+answer-has n s Answer.Off done now h = within (suc n) (n + 5) _ (one n _ _ h) (omega arith)
+answer-has n s Answer.Pending done now h = within (suc n) (n + 5) _ (one n _ _ h) (omega arith)
+answer-has n s (Answer.Owns b) done now h = within (suc n) (n + 5) _ (one n _ _ h) (omega arith)
+answer-has n s (Answer.Leads phys attr) done now h = within (suc (suc (suc (suc (suc n))))) (n + 5) _ (name (suc (suc (suc n))) _ Attributes attr (one (suc (suc n)) _ _ (one (suc n) _ _ (one n _ _ h)))) (omega arith)
+answer-has n s (Answer.Count k) done now h = within (suc (suc n)) (n + 5) _ (one (suc n) _ _ (one n _ _ h)) (omega arith)
+answer-has n s Answer.Silent done now h =
     chosen (Has (n + 5)) (eqb now 255) _ _ (λ y. within (suc n) (n + 5) _ (one n _ _ h) (omega arith)) (λ y. within (suc (suc (suc n))) (n + 5) _ (one (suc (suc n)) _ _ (name n s World now h)) (omega arith))
-answer-has n s (Answer.No r) now h = within (suc (suc (suc (suc n)))) (n + 5) _ (one (suc (suc (suc n))) _ _ (one (suc (suc n)) _ _ (one (suc n) _ _ (one n _ _ h)))) (omega arith)
+answer-has n s (Answer.No r) done now h = within (suc (suc (suc (suc n)))) (n + 5) _ (one (suc (suc (suc n))) _ _ (one (suc (suc n)) _ _ (one (suc n) _ _ (one n _ _ h)))) (omega arith)
 
-came-has : (n : ℕ) (s : Sentence) (accepted range clash : ℕ) (c : Came) (now : ℕ) → Has n s → Has (n + 6) (cameSaid s accepted range clash c now)
-came-has n s accepted range clash (Told why) now h = within (suc (suc n)) (n + 6) _ (one (suc n) _ _ (one n s _ h)) (omega arith)
-came-has n s accepted range clash (Called made) now h = within (suc n + 5) (n + 6) _ (answer-has (suc n) (s ▹ Column 70) (made .answer) now (one n s _ h)) (omega arith)
+came-has : (n : ℕ) (s : Sentence) (accepted range clash done : ℕ) (c : Came) (now : ℕ) → Has n s → Has (n + 6) (cameSaid s accepted range clash done c now)
+came-has n s accepted range clash done (Told why) now h = within (suc (suc n)) (n + 6) _ (one (suc n) _ _ (one n s _ h)) (omega arith)
+came-has n s accepted range clash done (Called made) now h = within (suc n + 5) (n + 6) _ (answer-has (suc n) (s ▹ Column 70) (made .answer) done now (one n s _ h)) (omega arith)
 
 -- ---- a sentence
 none : Has 0 blank
@@ -142,12 +147,12 @@ speaker-has n core (Called made) = one 8 _ _ (one 7 _ _ (name 5 _ World _ (one 4
 
 sentence-has : (n : ℕ) (f : Frame) (xs : List ℕ) (c : Came) (now : ℕ) → Has 25 (sentenceOf n f xs c now)
 unfolding sentenceOf
-sentence-has n (Frame.Site base pages cores) xs c now = within 18 25 _ (came-has 12 _ _ _ _ c now (things 10 _ _ _ _ (one 9 _ _ (one 8 _ _ (one 7 _ _ (things 5 _ _ _ _ (one 4 _ _ (one 3 _ _ (one 2 _ _ (one 1 _ _ (one 0 _ _ none))))))))))) (omega arith)
-sentence-has n (Frame.Entry lowest last kind handler) xs c now = within 19 25 _ (came-has 13 _ _ _ _ c now (name 11 _ Handler _ (one 10 _ _ (one 9 _ _ (one 8 _ _ (one 7 _ _ (one 6 _ _ (name 4 _ Kind _ (one 3 _ _ (one 2 _ _ (one 1 _ _ (one 0 _ _ none)))))))))))) (omega arith)
-sentence-has n (Frame.Name lowest count owner) xs c now = within 17 25 _ (came-has 11 _ _ _ _ c now (name 9 _ World _ (one 8 _ _ (one 7 _ _ (one 6 _ _ (things 4 _ _ _ _ (one 3 _ _ (one 2 _ _ (one 1 _ _ (one 0 _ _ none)))))))))) (omega arith)
-sentence-has n (Frame.Call core) xs c now = came-has 19 _ _ _ _ c now (asked-has 9 _ xs (speaker-has n core c))
-sentence-has n (Frame.Arrival core) xs c now = within 12 25 _ (came-has 6 _ _ _ _ c now (one 5 _ _ (one 4 _ _ (one 3 _ _ (one 2 _ _ (one 1 _ _ (one 0 _ _ none))))))) (omega arith)
-sentence-has n (Frame.Refused why) xs c now = within 11 25 _ (came-has 5 _ _ _ _ c now (one 4 _ _ (one 3 _ _ (one 2 _ _ (one 1 _ _ (one 0 _ _ none)))))) (omega arith)
+sentence-has n (Frame.Site base pages cores) xs c now = within 18 25 _ (came-has 12 _ _ _ _ _ c now (things 10 _ _ _ _ (one 9 _ _ (one 8 _ _ (one 7 _ _ (things 5 _ _ _ _ (one 4 _ _ (one 3 _ _ (one 2 _ _ (one 1 _ _ (one 0 _ _ none))))))))))) (omega arith)
+sentence-has n (Frame.Entry lowest last kind handler) xs c now = within 19 25 _ (came-has 13 _ _ _ _ _ c now (name 11 _ Handler _ (one 10 _ _ (one 9 _ _ (one 8 _ _ (one 7 _ _ (one 6 _ _ (name 4 _ Kind _ (one 3 _ _ (one 2 _ _ (one 1 _ _ (one 0 _ _ none)))))))))))) (omega arith)
+sentence-has n (Frame.Name lowest count owner) xs c now = within 17 25 _ (came-has 11 _ _ _ _ _ c now (name 9 _ World _ (one 8 _ _ (one 7 _ _ (one 6 _ _ (things 4 _ _ _ _ (one 3 _ _ (one 2 _ _ (one 1 _ _ (one 0 _ _ none)))))))))) (omega arith)
+sentence-has n (Frame.Call core) xs c now = came-has 19 _ _ _ _ _ c now (asked-has 9 _ _ xs (speaker-has n core c))
+sentence-has n (Frame.Arrival core) xs c now = within 12 25 _ (came-has 6 _ _ _ _ _ c now (one 5 _ _ (one 4 _ _ (one 3 _ _ (one 2 _ _ (one 1 _ _ (one 0 _ _ none))))))) (omega arith)
+sentence-has n (Frame.Refused why) xs c now = within 11 25 _ (came-has 5 _ _ _ _ _ c now (one 4 _ _ (one 3 _ _ (one 2 _ _ (one 1 _ _ (one 0 _ _ none)))))) (omega arith)
 
 -- The sentence of any line has room for more.
 pub never-full : (n : ℕ) (f : Frame) (xs : List ℕ) (c : Came) (now : ℕ) → sentenceOf n f xs c now .count < most

@@ -94,7 +94,7 @@ unfolding rightText hexText gapText
 piece-whole w (Word k) = word-whole k
 piece-whole w (Number x) = decimal-whole 20 x
 piece-whole w (Right x) = both-whole (blanks (indent x)) (decimalText x) (blanks-whole (indent x)) (decimal-whole 20 x)
-piece-whole w (Hex x) = chosen Whole (ltb x 0x100000000) _ _ (λ y. hex-whole 8 x) (λ n. hex-whole 16 x)
+piece-whole w (Hex x) = chosen Whole (ltb x 0x100000000) _ _ (λ y. hex-whole 8 x) (λ n. chosen Whole (ltb x 0x1000000000000) _ _ (λ y. hex-whole 12 x) (λ m. hex-whole 16 x))
 piece-whole w (Column c) = blanks-whole (pick (ltb w c) (c - w) 1)
 
 upto-whole : (s : Sentence) (i : ℕ) → Whole (upto s i)

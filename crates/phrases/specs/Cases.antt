@@ -15,7 +15,7 @@ use Rattle.phrases.specs.declared.Piece.the-variants.{Word, Number, Righ
 
 pub lines :
     lineText (blank ▹ Right 7 ▹ Column 6 ▹ Word w.take ▹ Number 12 ▹ Word w.pages ▹ Word w.from ▹ Hex 0x80003000 ▹ Column 40 ▹ Word w.granted)
-    ++ lineText (blank ▹ Right 1234567 ▹ Column 6 ▹ Hex 0xffffffffffff0000 ▹ Word 65535 ▹ Number 0)
-    ≡ signs "   7  take 12 pages from 80003000       granted\n1234567 ffffffffffff00000\n"
+    ++ lineText (blank ▹ Right 1234567 ▹ Column 6 ▹ Hex 0xffffffffffff0000 ▹ Word 65535 ▹ Number 0 ▹ Column 1 ▹ Hex 0xffffffff ▹ Column 1 ▹ Hex 0x100000000 ▹ Column 1 ▹ Hex 0xffffffffffff ▹ Column 1 ▹ Hex 0x1000000000000)
+    ≡ signs "   7  take 12 pages from 80003000       granted\n1234567 ffffffffffff00000 ffffffff 000100000000 ffffffffffff 0001000000000000\n"
 unfolding lineText textOf upto extended pieceOf _▹_ rightText indent hexText gapText blanks row wordText words inDecimal inHex signOf pick
 lines = refl

@@ -29,9 +29,9 @@ indent x = pick (ltb x 10) 3 (pick (ltb x 100) 2 (pick (ltb x 1000) 1 0))
 unfoldable pub rightText : ℕ → List ℕ
 rightText x = blanks (indent x) ++ decimalText x
 
--- eight digits, or sixteen where it needs more
+-- eight digits, or twelve or sixteen where it needs more
 unfoldable pub hexText : ℕ → List ℕ
-hexText x = pick (ltb x 0x100000000) (inHex 8 x) (inHex 16 x)
+hexText x = pick (ltb x 0x100000000) (inHex 8 x) (pick (ltb x 0x1000000000000) (inHex 12 x) (inHex 16 x))
 
 -- blanks up to a column of the line, and at least one
 unfoldable pub gapText : ℕ → ℕ → List ℕ
@@ -81,9 +81,14 @@ right-short : (x : ℕ) → length (rightText x) ≤ 96
 unfolding rightText
 right-short x = omega (arith, length-append (blanks (indent x)) (decimalText x), length-blanks (indent x) .1, indent-few x, decimal-short x)
 
-hex-short : (x : ℕ) → length (hexText x) ≤ 96
+pub hex-few : (x : ℕ) → length (hexText x) ≤ 16
 unfolding hexText
-hex-short x = chosen (λ (l : List ℕ). length l ≤ 96) (ltb x 0x100000000) _ _ (λ y. omega (arith, length-hex 8 x)) (λ y. omega (arith, length-hex 16 x))
+hex-few x =
+    chosen (λ (l : List ℕ). length l ≤ 16) (ltb x 0x100000000) _ _ (λ y. omega (arith, length-hex 8 x))
+    (λ y. chosen (λ (l : List ℕ). length l ≤ 16) (ltb x 0x1000000000000) _ _ (λ z. omega (arith, length-hex 12 x)) (λ z. omega (arith, length-hex 16 x)))
+
+hex-short : (x : ℕ) → length (hexText x) ≤ 96
+hex-short x = omega (arith, hex-few x)
 
 gap-short : (w c : ℕ) → length (gapText w c) ≤ 96
 unfolding gapText
@@ -144,9 +149,13 @@ module _ (x : ℕ) (o p : List ℕ) (at b : ℕ) where
   unfolding hexText
   hex-eight h e = e ∙ ap (put o at) (picked _ _ _ _ (lt-ltb x 0x100000000 h) refl)
 
-  pub hex-sixteen : 0x100000000 ≤ x → (b, p) ≡ put o at (inHex 16 x) → (b, p) ≡ put o at (hexText x)
+  pub hex-twelve : 0x100000000 ≤ x → x < 0x1000000000000 → (b, p) ≡ put o at (inHex 12 x) → (b, p) ≡ put o at (hexText x)
   unfolding hexText
-  hex-sixteen h e = e ∙ ap (put o at) (passed _ _ _ _ (le-ltb x 0x100000000 h) refl)
+  hex-twelve g h e = e ∙ ap (put o at) (passed _ _ _ _ (le-ltb x 0x100000000 g) (picked _ _ _ _ (lt-ltb x 0x1000000000000 h) refl))
+
+  pub hex-sixteen : 0x1000000000000 ≤ x → (b, p) ≡ put o at (inHex 16 x) → (b, p) ≡ put o at (hexText x)
+  unfolding hexText
+  hex-sixteen h e = e ∙ ap (put o at) (passed _ _ _ _ (le-ltb x 0x100000000 (omega arith)) (passed _ _ _ _ (le-ltb x 0x1000000000000 h) refl))
 
 module _ (w c : ℕ) (o p : List ℕ) (at b : ℕ) where
   pub gap-wide : w < c → (b, p) ≡ put o at (blanks (c - w)) → (b, p) ≡ put o at (gapText w c)
@@ -157,7 +166,7 @@ module _ (w c : ℕ) (o p : List ℕ) (at b : ℕ) where
   unfolding gapText
   gap-one h e = e ∙ ap (λ (n : ℕ). put o at (blanks n)) (passed _ _ _ _ (le-ltb w c h) refl)
 
-pub ruleset parts = (right-put, hex-eight, hex-sixteen, gap-wide, gap-one)
+pub ruleset parts = (right-put, hex-eight, hex-twelve, hex-sixteen, gap-wide, gap-one)
 
 pub one-piece : (w at b : ℕ) (o o′ : List ℕ) (p q : Piece) → p ≡ q → (b, o′) ≡ put o at (pieceText w q) → (b, o′) ≡ put o at (pieceText w p)
 one-piece w at b o o′ p q e h = rw e h

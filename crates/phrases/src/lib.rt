@@ -15,7 +15,7 @@ pub enum Piece {
     Number(u64),
     // the same, with blanks in front of it up to four signs
     Right(u64),
-    // a number in hexadecimal digits: eight, or sixteen where it needs more
+    // a number in hexadecimal digits: eight, or twelve or sixteen where it needs more
     Hex(u64),
     // blanks up to this column of the line, and at least one
     Column(u64),
@@ -123,12 +123,15 @@ fn put_right(out: &mut [u8], at: usize, x: u64) -> usize
     writing::put_decimal(out, a, x)
 }
 
-// An address in eight digits, or in sixteen where it needs more.
+// An address in eight digits, or in twelve or sixteen where it needs more.
 pub fn put_hex(out: &mut [u8], at: usize, x: u64) -> usize
     ensures { λ r. ⌜ (r, now (out .exit)) ≡ put (now (out .entry)) at (hexText x) ⌝ }
 {
     if x < 0x100000000 {
         return hex_write::put_digits(out, at, 8, x);
+    }
+    if x < 0x1000000000000 {
+        return hex_write::put_digits(out, at, 12, x);
     }
     hex_write::put_digits(out, at, 16, x)
 }

@@ -10,7 +10,6 @@ use lib.ListN.{length, set, getD, List·getD-eq-default, length-append}
 use borrow.Author.Tests.{lt-ltb, le-ltb, eqb-true, eqb-false}
 use Rattle.rules.specs.Choice.{pick, picked, passed, chosen, either}
 use Rattle.tools.specs.Laid.{laid, put, put-fits}
-use Rattle.hex.specs.Hex.{length-hex}
 use Rattle.hex.specs.Signs.{signs}
 use Rattle.hex_write.specs.Put.{Laid, was-put, put-then}
 use Rattle.pages.specs.Owners.{owner}
@@ -18,7 +17,7 @@ use Rattle.pages.specs.declared.Window.{Window}
 use Rattle.mapping.specs.Lists.{held}
 use Rattle.mapping.specs.Mapping.{meetsRun}
 use Rattle.writing.specs.Put.{blanks, length-blanks}
-use Rattle.phrases.specs.Text.{hexText}
+use Rattle.phrases.specs.Text.{hexText, hex-few}
 use Rattle.standing.specs.Standing.{addressOf, isWide}
 
 -- ---- a page
@@ -126,10 +125,6 @@ module _ (pages page : ℕ) where
 pub ruleset lengths = (row-none, row-short, row-full)
 
 -- ---- a row, part behind part
-hex-few : (x : ℕ) → length (hexText x) ≤ 16
-unfolding hexText
-hex-few x = chosen (λ (l : List ℕ). length l ≤ 16) (ltb x 0x100000000) _ _ (λ y. omega (arith, length-hex 8 x)) (λ y. omega (arith, length-hex 16 x))
-
 module _ (w : Window) where
   pub column-wide : (b : Bool) → b ≡ isWide w → b ≡ true → 18 ≡ rowColumn w
   unfolding rowColumn

@@ -25,6 +25,6 @@ pub lines :
     ++ lineText (mappingSaid 1 (record { virt = 0x10000; phys = 0x80003000; size = 8192; attr = 1 }))
     ++ lineText (outsideSaid 0x7ffff000)
     ≡ signs
-    "how things stand after line 41\ncore 0: ON, Normal runs now\ncore 1: pending, to start at 80001000\ncore 2: OFF\n80000000 to 8000ffff    16 pages  Normal  line 3\n80010000 to 80010fff     1 page   Realm   line 12\n80011000 to 8003ffff    47 pages  Root    unnamed\nfffff000 to ffffffff                     1 page   Normal  line 3\n0000000100000000 to 0000000100002fff     3 pages  Realm   line 12\nSecure  maps 2 pages from 80003000 at 00010000, writable\n7ffff000 lies outside the window\n"
+    "how things stand after line 41\ncore 0: ON, Normal runs now\ncore 1: pending, to start at 80001000\ncore 2: OFF\n80000000 to 8000ffff    16 pages  Normal  line 3\n80010000 to 80010fff     1 page   Realm   line 12\n80011000 to 8003ffff    47 pages  Root    unnamed\nfffff000 to ffffffff                     1 page   Normal  line 3\n000100000000 to 000100002fff             3 pages  Realm   line 12\nSecure  maps 2 pages from 80003000 at 00010000, writable\n7ffff000 lies outside the window\n"
 unfolding rangeSaid placeSaid ownerSaid coreSaid mappingSaid mapsSaid originSaid addressOf pagesWord attributesWord isOn isPending lineText textOf upto extended pieceOf _▹_ rightText indent hexText gapText blanks row wordText words inDecimal inHex signOf pick
 lines = refl

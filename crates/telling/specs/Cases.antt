@@ -21,7 +21,7 @@ use Rattle.words.specs.Words.{words, wordText}
 use Rattle.phrases.specs.Sentence.{pieceOf, _▹_}
 use Rattle.phrases.specs.Text.{indent, rightText, hexText, gapText, extended, upto, textOf, lineText}
 use Rattle.asking.specs.Names.{namedFrom, counted}
-use Rattle.asking.specs.Forms.{forms, keyAt, rowAt, isForm, form, register, valued, slot, slots, asked}
+use Rattle.asking.specs.Forms.{forms, keyAt, rowAt, isForm, form, register, valued, slot, slots, asked, doneWord}
 use Rattle.telling.specs.Came.{turned}
 use Rattle.telling.specs.Telling.{sentenceOf}
 
@@ -43,12 +43,12 @@ pub call-lines :
     ++ (line 11 (Frame.Call 0) asks (Called (record { caller = 3; answer = Answer.No WrongOwner })) 3
     ++ (line 12 (Frame.Call 1) (0x32000001 ∷ 1 ∷ 2 ∷ 3 ∷ []) (Called (record { caller = 2; answer = Answer.Silent })) 1
     ++ line 13 (Frame.Call 1) (0x84000002 ∷ []) (Called (record { caller = 2; answer = Answer.Silent })) 255))
-    ≡ signs "  10 core 0 Realm:  take the page at 80003000                         granted\n  11 core 0 Realm:  take the page at 80003000                         refused -3, another's page\n  12 core 1 Normal: call 32000001 with 00000001 00000002 00000003     Secure runs now\n  13 core 1 Normal: turn this core OFF                                the core is OFF now\n"
-unfolding sentenceOf turned asked slots slot valued register form isForm keyAt rowAt forms first namedFrom counted lineText textOf upto extended pieceOf _▹_ rightText indent hexText gapText blanks row wordText words inDecimal inHex signOf argsOf argument parts keyOf identifierOf pick
+    ≡ signs "  10 core 0 Realm:  take the page at 80003000                         granted\n  11 core 0 Realm:  take the page at 80003000                         refused -3, not the giver's\n  12 core 1 Normal: call 32000001 with 00000001 00000002 00000003     Secure runs now\n  13 core 1 Normal: turn this core OFF                                the core is OFF now\n"
+unfolding sentenceOf turned asked doneWord slots slot valued register form isForm keyAt rowAt forms first namedFrom counted lineText textOf upto extended pieceOf _▹_ rightText indent hexText gapText blanks row wordText words inDecimal inHex signOf argsOf argument parts keyOf identifierOf pick
 call-lines = refl
 
 pub other-lines :
     line 14 (Frame.Call 7) asks (Told Clash) 255 ++ (line 15 (Frame.Arrival 1) [] (Told Accepted) 255 ++ line 16 (Frame.Refused NoHex) [] (Told NoHex) 255)
-    ≡ signs "  14 core 7         take the page at 80003000                         refused 75: core not ON\n  15 core 1         arrives                                           accepted: ON in Normal\n  16 no frame       not 1 to 66 pairs of hexadecimal digits           refused 71\n"
-unfolding sentenceOf asked slots slot valued register form isForm keyAt rowAt forms first namedFrom counted lineText textOf upto extended pieceOf _▹_ rightText indent hexText gapText blanks row wordText words inDecimal inHex signOf argsOf argument parts keyOf identifierOf pick
+    ≡ signs "  14 core 7         take the page at 80003000                         refused 75: core not ON\n  15 core 1         arrives                                           accepted: ON in Normal\n  16 no frame       not 1 to 66 pairs of digits 0 to 9 and a to f     refused 71\n"
+unfolding sentenceOf asked doneWord slots slot valued register form isForm keyAt rowAt forms first namedFrom counted lineText textOf upto extended pieceOf _▹_ rightText indent hexText gapText blanks row wordText words inDecimal inHex signOf argsOf argument parts keyOf identifierOf pick
 other-lines = refl

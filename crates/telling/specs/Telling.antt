@@ -1,5 +1,6 @@
 -- The sentence of a line: its number, who speaks on which core, what is asked, and what came of it.
 use mathlib.Core.Path.{_≡_, refl}
+use mathlib.Core.Bool.{Bool}
 use mathlib.Core.List.{List}
 use Prim.Native.Nat.{ℕ}
 use Rattle.parsing.specs.declared.Status.{Status}
@@ -14,9 +15,9 @@ use Rattle.phrases.specs.Sentence.{blank, _▹_}
 use Rattle.phrases.specs.declared.Piece.the-variants.{Word, Number, Right, Hex, Column}
 use Rattle.phrases.specs.declared.Sentence.{Sentence}
 use Rattle.asking.specs.Names.{named, counted}
-use Rattle.asking.specs.Forms.{asked}
+use Rattle.asking.specs.Forms.{asked, doneWord}
 use Rattle.asking.specs.declared.Known.the-variants.{World, Handler, Kind}
-use Rattle.telling.specs.Came.{cameSaid}
+use Rattle.telling.specs.Came.{cameSaid, handed}
 
 -- the number of the line
 abbrev pub opening : ℕ → Sentence
@@ -64,12 +65,12 @@ noFrame n why = opening n ▹ Word w.noFrame ▹ Column 20 ▹ Word (lineOf why)
 
 -- ---- any line
 unfoldable pub sentenceOf : ℕ → Frame → List ℕ → Came → ℕ → Sentence
-sentenceOf n (Frame.Site base pages cores) xs came now = cameSaid (siteAsked n base pages cores) w.accepted w.outOfRange w.outOfRange came now
-sentenceOf n (Frame.Entry first last kind handler) xs came now = cameSaid (entryAsked n first last kind handler) w.accepted w.outOfRange w.givenBefore came now
-sentenceOf n (Frame.Name first count owner) xs came now = cameSaid (nameAsked n first count owner) w.accepted w.outOfRange w.namedBefore came now
-sentenceOf n (Frame.Call core) xs came now = cameSaid (asked (speaker n core came) xs) w.accepted w.noCore w.notOn came now
-sentenceOf n (Frame.Arrival core) xs came now = cameSaid (arrivalSaid n core) w.arrived w.noCore w.notPending came now
-sentenceOf n (Frame.Refused why) xs came now = cameSaid (noFrame n why) w.accepted w.outOfRange w.outOfRange came now
+sentenceOf n (Frame.Site base pages cores) xs came now = cameSaid (siteAsked n base pages cores) w.accepted w.outOfRange w.outOfRange w.granted came now
+sentenceOf n (Frame.Entry first last kind handler) xs came now = cameSaid (entryAsked n first last kind handler) w.accepted w.outOfRange w.givenBefore w.granted came now
+sentenceOf n (Frame.Name first count owner) xs came now = cameSaid (nameAsked n first count owner) w.accepted w.outOfRange w.namedBefore w.granted came now
+sentenceOf n (Frame.Call core) xs came now = cameSaid (asked (speaker n core came) (handed came now) xs) w.accepted w.noCore w.notOn (doneWord xs) came now
+sentenceOf n (Frame.Arrival core) xs came now = cameSaid (arrivalSaid n core) w.arrived w.noCore w.notPending w.granted came now
+sentenceOf n (Frame.Refused why) xs came now = cameSaid (noFrame n why) w.accepted w.outOfRange w.outOfRange w.granted came now
 
 -- ---- how the code's branches meet these
 module _ (n core : ℕ) (came : Came) (s r : Sentence) (e : s ≡ onCore n core) where
@@ -83,27 +84,27 @@ pub no-frame-by : (n : ℕ) (why : Status) (s t r : Sentence) (k : ℕ) → s �
 no-frame-by n why s t r k e f h = rw (f, e) at h
 
 module _ (n : ℕ) (f : Frame) (xs : List ℕ) (came : Came) (now : ℕ) (s r : Sentence) where
-  pub tells-site : (base pages cores : ℕ) → f ≡ Frame.Site base pages cores → s ≡ siteAsked n base pages cores → r ≡ cameSaid s w.accepted w.outOfRange w.outOfRange came now → r ≡ sentenceOf n f xs came now
+  pub tells-site : (base pages cores : ℕ) → f ≡ Frame.Site base pages cores → s ≡ siteAsked n base pages cores → r ≡ cameSaid s w.accepted w.outOfRange w.outOfRange w.granted came now → r ≡ sentenceOf n f xs came now
   unfolding sentenceOf
   tells-site base pages cores e g h = rw (e, ← g) h
 
-  pub tells-entry : (first last kind handler : ℕ) → f ≡ Frame.Entry first last kind handler → s ≡ entryAsked n first last kind handler → r ≡ cameSaid s w.accepted w.outOfRange w.givenBefore came now → r ≡ sentenceOf n f xs came now
+  pub tells-entry : (first last kind handler : ℕ) → f ≡ Frame.Entry first last kind handler → s ≡ entryAsked n first last kind handler → r ≡ cameSaid s w.accepted w.outOfRange w.givenBefore w.granted came now → r ≡ sentenceOf n f xs came now
   unfolding sentenceOf
   tells-entry first last kind handler e g h = rw (e, ← g) h
 
-  pub tells-name : (first count owner : ℕ) → f ≡ Frame.Name first count owner → s ≡ nameAsked n first count owner → r ≡ cameSaid s w.accepted w.outOfRange w.namedBefore came now → r ≡ sentenceOf n f xs came now
+  pub tells-name : (first count owner : ℕ) → f ≡ Frame.Name first count owner → s ≡ nameAsked n first count owner → r ≡ cameSaid s w.accepted w.outOfRange w.namedBefore w.granted came now → r ≡ sentenceOf n f xs came now
   unfolding sentenceOf
   tells-name first count owner e g h = rw (e, ← g) h
 
-  pub tells-call : (core : ℕ) (t : Sentence) → f ≡ Frame.Call core → t ≡ speaker n core came → s ≡ asked t xs → r ≡ cameSaid s w.accepted w.noCore w.notOn came now → r ≡ sentenceOf n f xs came now
+  pub tells-call : (core k : ℕ) (t : Sentence) (b : Bool) → f ≡ Frame.Call core → t ≡ speaker n core came → b ≡ handed came now → s ≡ asked t b xs → k ≡ doneWord xs → r ≡ cameSaid s w.accepted w.noCore w.notOn k came now → r ≡ sentenceOf n f xs came now
   unfolding sentenceOf
-  tells-call core t e i g h = rw (e, ← i, ← g) h
+  tells-call core k t b e i j g d h = rw (e, ← i, ← j, ← g, ← d) h
 
-  pub tells-arrival : (core : ℕ) → f ≡ Frame.Arrival core → s ≡ arrivalSaid n core → r ≡ cameSaid s w.arrived w.noCore w.notPending came now → r ≡ sentenceOf n f xs came now
+  pub tells-arrival : (core : ℕ) → f ≡ Frame.Arrival core → s ≡ arrivalSaid n core → r ≡ cameSaid s w.arrived w.noCore w.notPending w.granted came now → r ≡ sentenceOf n f xs came now
   unfolding sentenceOf
   tells-arrival core e g h = rw (e, ← g) h
 
-  pub tells-refused : (why : Status) → f ≡ Frame.Refused why → s ≡ noFrame n why → r ≡ cameSaid s w.accepted w.outOfRange w.outOfRange came now → r ≡ sentenceOf n f xs came now
+  pub tells-refused : (why : Status) → f ≡ Frame.Refused why → s ≡ noFrame n why → r ≡ cameSaid s w.accepted w.outOfRange w.outOfRange w.granted came now → r ≡ sentenceOf n f xs came now
   unfolding sentenceOf
   tells-refused why e g h = rw (e, ← g) h
 

@@ -1,6 +1,6 @@
 // A line of a run told in words: its number, who speaks on which core, what is asked, and what came of it.
 ghost use mathlib.Core.Path.{_≡_};
-ghost use Rattle.telling.specs.Came.{reasonWord, statusWord, answered, cameSaid};
+ghost use Rattle.telling.specs.Came.{reasonWord, statusWord, answered, cameSaid, isSilent, handed};
 ghost use Rattle.telling.specs.Telling.{opening, setupLine, siteAsked, entryAsked, nameAsked, onCore, speaker, arrivalSaid, lineOf, noFrame, sentenceOf};
 ghost use Rattle.judgements.specs.declared.Answer.the-variants as Answer;
 use asking::Known;
@@ -65,7 +65,7 @@ fn status_word(why: Status, accepted: u64, range: u64, clash: u64) -> u64
 
 // A refusal, with its number.
 fn refusal(s: Sentence, r: Reason) -> Sentence
-    ensures { λ t. ⌜ t ≡ answered s (Answer.No r) 0 ⌝ }
+    ensures { λ t. ⌜ t ≡ answered s (Answer.No r) 0 0 ⌝ }
 {
     let t = s.with(Piece::Word(w::MINUS));
     let u = t.with(Piece::Number(rules::minus_of(r)));
@@ -75,7 +75,7 @@ fn refusal(s: Sentence, r: Reason) -> Sentence
 
 // Where an address leads.
 fn lead(s: Sentence, phys: u64, attr: u64) -> Sentence
-    ensures { λ t. ⌜ t ≡ answered s (Answer.Leads phys attr) 0 ⌝ }
+    ensures { λ t. ⌜ t ≡ answered s (Answer.Leads phys attr) 0 0 ⌝ }
 {
     let t = s.with(Piece::Word(w::LEADS));
     let u = t.with(Piece::Hex(phys));
@@ -84,14 +84,14 @@ fn lead(s: Sentence, phys: u64, attr: u64) -> Sentence
 
 // A number that was answered.
 fn number(s: Sentence, n: u64) -> Sentence
-    ensures { λ t. ⌜ t ≡ answered s (Answer.Count n) 0 ⌝ }
+    ensures { λ t. ⌜ t ≡ answered s (Answer.Count n) 0 0 ⌝ }
 {
     s.with(Piece::Word(w::ANSWERED)).with(Piece::Number(n))
 }
 
 // Whether the caller owns the page.
 fn ownership(s: Sentence, owns: bool) -> Sentence
-    ensures { λ t. ⌜ t ≡ answered s (Answer.Owns owns) 0 ⌝ }
+    ensures { λ t. ⌜ t ≡ answered s (Answer.Owns owns) 0 0 ⌝ }
 {
     if owns {
         return s.with(Piece::Word(w::OWNED));
@@ -101,7 +101,7 @@ fn ownership(s: Sentence, owns: bool) -> Sentence
 
 // Which world runs then.
 fn turn(s: Sentence, world: u64) -> Sentence
-    ensures { λ t. ⌜ t ≡ answered s Answer.Silent world ⌝ }
+    ensures { λ t. ⌜ t ≡ answered s Answer.Silent 0 world ⌝ }
 {
     if world == NO_WORLD {
         return s.with(Piece::Word(w::OFF));
@@ -109,14 +109,14 @@ fn turn(s: Sentence, world: u64) -> Sentence
     asking::name(s, Known::World, world).with(Piece::Word(w::RUNS))
 }
 
-// What a call was answered, where this world runs on its core then.
-fn answer(s: Sentence, a: Answer, now: u64) -> Sentence
-    ensures { λ t. ⌜ t ≡ answered s a now ⌝ }
+// What a call was answered, where this is the word for what is granted, and this world runs on its core then.
+fn answer(s: Sentence, a: Answer, done: u64, now: u64) -> Sentence
+    ensures { λ t. ⌜ t ≡ answered s a done now ⌝ }
 {
     match a {
         Answer::Version => s.with(Piece::Word(w::VERSION)),
         Answer::PowerVersion => s.with(Piece::Word(w::POWER_VERSION)),
-        Answer::Done => s.with(Piece::Word(w::GRANTED)),
+        Answer::Done => s.with(Piece::Word(done)),
         Answer::On => s.with(Piece::Word(w::IS_ON)),
         Answer::Off => s.with(Piece::Word(w::IS_OFF)),
         Answer::Pending => s.with(Piece::Word(w::IS_PENDING)),
@@ -129,15 +129,23 @@ fn answer(s: Sentence, a: Answer, now: u64) -> Sentence
 }
 
 // What came of a frame. Three statuses have words by the frame.
-fn outcome(s: Sentence, accepted: u64, range: u64, clash: u64, came: Came, now: u64) -> Sentence
-    ensures { λ t. ⌜ t ≡ cameSaid s accepted range clash came now ⌝ }
+fn outcome(
+    s: Sentence,
+    accepted: u64,
+    range: u64,
+    clash: u64,
+    done: u64,
+    came: Came,
+    now: u64,
+) -> Sentence
+    ensures { λ t. ⌜ t ≡ cameSaid s accepted range clash done came now ⌝ }
 {
     let t = s.with(Piece::Column(CAME));
     match came {
         Came::Told(why) => { t.with(Piece::Word(status_word(why, accepted, range, clash))) }
         Came::Called(made) => {
             let a = made.answer;
-            answer(t, a, now)
+            answer(t, a, done, now)
         }
     }
 }
@@ -244,6 +252,42 @@ fn no_frame(n: u64, why: Status) -> Sentence
     t.with(Piece::Word(line_word(why)))
 }
 
+// Whether nothing was answered.
+fn is_silent(a: Answer) -> bool
+    ensures { λ r. ⌜ r ≡ isSilent a ⌝ }
+{
+    match a {
+        Answer::Version => false,
+        Answer::PowerVersion => false,
+        Answer::Done => false,
+        Answer::On => false,
+        Answer::Off => false,
+        Answer::Pending => false,
+        Answer::Owns(b) => false,
+        Answer::Leads { phys, attr } => false,
+        Answer::Count(n) => false,
+        Answer::Silent => true,
+        Answer::No(r) => false,
+    }
+}
+
+// Whether a call was handed over: nothing is answered, and another world than Normal runs then.
+fn is_handed(came: Came, now: u64) -> bool
+    ensures { λ r. ⌜ r ≡ handed came now ⌝ }
+{
+    let Came::Called(made) = came else {
+        return false;
+    };
+    if now == rules::NORMAL {
+        return false;
+    }
+    if now == NO_WORLD {
+        return false;
+    }
+    let a = made.answer;
+    is_silent(a)
+}
+
 // The sentence of line n: its frame, with the eight numbers that stand beside it, what came of it, and the world that runs
 // on its core then.
 pub fn tell(n: u64, frame: Frame, x: &[u64; 8], came: Came, runs: u64) -> Sentence
@@ -252,7 +296,15 @@ pub fn tell(n: u64, frame: Frame, x: &[u64; 8], came: Came, runs: u64) -> Senten
     match frame {
         Frame::Site { base, pages, cores } => {
             let s = site(n, base, pages, cores);
-            outcome(s, w::ACCEPTED, w::OUT_OF_RANGE, w::OUT_OF_RANGE, came, runs)
+            outcome(
+                s,
+                w::ACCEPTED,
+                w::OUT_OF_RANGE,
+                w::OUT_OF_RANGE,
+                w::GRANTED,
+                came,
+                runs,
+            )
         }
         Frame::Entry {
             first,
@@ -261,7 +313,15 @@ pub fn tell(n: u64, frame: Frame, x: &[u64; 8], came: Came, runs: u64) -> Senten
             handler,
         } => {
             let s = entry(n, first, last, kind, handler);
-            outcome(s, w::ACCEPTED, w::OUT_OF_RANGE, w::GIVEN_BEFORE, came, runs)
+            outcome(
+                s,
+                w::ACCEPTED,
+                w::OUT_OF_RANGE,
+                w::GIVEN_BEFORE,
+                w::GRANTED,
+                came,
+                runs,
+            )
         }
         Frame::Name {
             first,
@@ -269,19 +329,44 @@ pub fn tell(n: u64, frame: Frame, x: &[u64; 8], came: Came, runs: u64) -> Senten
             owner,
         } => {
             let s = pages(n, first, count, owner);
-            outcome(s, w::ACCEPTED, w::OUT_OF_RANGE, w::NAMED_BEFORE, came, runs)
+            outcome(
+                s,
+                w::ACCEPTED,
+                w::OUT_OF_RANGE,
+                w::NAMED_BEFORE,
+                w::GRANTED,
+                came,
+                runs,
+            )
         }
         Frame::Call { core } => {
-            let s = asking::ask(speaker(n, core, came), x);
-            outcome(s, w::ACCEPTED, w::NO_CORE, w::NOT_ON, came, runs)
+            let s = asking::ask(speaker(n, core, came), is_handed(came, runs), x);
+            let done = asking::done_word(x);
+            outcome(s, w::ACCEPTED, w::NO_CORE, w::NOT_ON, done, came, runs)
         }
         Frame::Arrival { core } => {
             let s = arrival(n, core);
-            outcome(s, w::ARRIVED, w::NO_CORE, w::NOT_PENDING, came, runs)
+            outcome(
+                s,
+                w::ARRIVED,
+                w::NO_CORE,
+                w::NOT_PENDING,
+                w::GRANTED,
+                came,
+                runs,
+            )
         }
         Frame::Refused(why) => {
             let s = no_frame(n, why);
-            outcome(s, w::ACCEPTED, w::OUT_OF_RANGE, w::OUT_OF_RANGE, came, runs)
+            outcome(
+                s,
+                w::ACCEPTED,
+                w::OUT_OF_RANGE,
+                w::OUT_OF_RANGE,
+                w::GRANTED,
+                came,
+                runs,
+            )
         }
     }
 }

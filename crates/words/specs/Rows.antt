@@ -15,9 +15,9 @@ use Rattle.tools.specs.Laid.{put, laid}
 use Rattle.hex.specs.Signs.{signs}
 use Rattle.words.specs.Words.{words, many, wordText}
 
--- a word filled up to 40 bytes with ~
+-- a word filled up to 48 bytes with ~
 unfoldable pub filled : String → List ℕ
-filled w = take 40 (signs w ++ replicate 40 126)
+filled w = take 48 (signs w ++ replicate 48 126)
 
 unfoldable pub rows : List (List ℕ)
 rows = map filled words
@@ -30,7 +30,7 @@ unfoldable pub filledAt : List ℕ → ℕ → Bool
 filledAt r i = eqb (getD r i 0) 126
 
 unfoldable pub endOf : List ℕ → ℕ
-endOf r = first (filledAt r) 0 40
+endOf r = first (filledAt r) 0 48
 
 -- ---- a row of the table
 getD-map : (ws : List String) (k : ℕ) (d : List ℕ) → k < length ws → getD (map filled ws) k d ≡ filled (getD ws k "")
@@ -53,7 +53,7 @@ clear [] = true
 clear (x ∷ xs) = not (eqb x 126) && clear xs
 
 unfoldable plain : String → Bool
-plain w = clear (signs w) && leb (length (signs w)) 40
+plain w = clear (signs w) && leb (length (signs w)) 48
 
 unfoldable allPlain : List String → Bool
 allPlain [] = true
@@ -76,29 +76,29 @@ clear-at (x ∷ xs) zero e h = either (eqb x 126) (λ y. absurd (yes-or-no (not 
 clear-at (x ∷ xs) (suc i) e h = clear-at xs i (right-true (not (eqb x 126)) (clear xs) e) (omega arith)
 
 -- so the row ends where its word does
-module _ (l : List ℕ) (c : clear l ≡ true) (h : length l ≤ 40) where
+module _ (l : List ℕ) (c : clear l ≡ true) (h : length l ≤ 48) where
   abbrev fill : List ℕ
-  fill = replicate 40 126
+  fill = replicate 48 126
 
   abbrev full : List ℕ
-  full = take 40 (l ++ fill)
+  full = take 48 (l ++ fill)
 
   in-word : (i : ℕ) → i < length l → filledAt full i ≡ false
   unfolding filledAt
-  in-word i g = rw (getD-take 40 (l ++ fill) i 0 (omega arith), List·getD-append l fill 0 i g) (clear-at l i c g)
+  in-word i g = rw (getD-take 48 (l ++ fill) i 0 (omega arith), List·getD-append l fill 0 i g) (clear-at l i c g)
 
-  behind-word : length l < 40 → filledAt full (length l) ≡ true
+  behind-word : length l < 48 → filledAt full (length l) ≡ true
   unfolding filledAt
   behind-word g =
       let z : length l + 0 ≡ length l = omega arith in
       let e : getD (l ++ fill) (length l) 0 ≡ 126 = rw z at (getD-append-add l fill 0 0) in
-      rw (getD-take 40 (l ++ fill) (length l) 0 g, e)
+      rw (getD-take 48 (l ++ fill) (length l) 0 g, e)
 
   ends-so : endOf full ≡ length l
   unfolding endOf
   ends-so =
-      let k = first (filledAt full) 0 40 in
-      let f = first-is (filledAt full) 0 40 in
+      let k = first (filledAt full) 0 48 in
+      let f = first-is (filledAt full) 0 48 in
       either (ltb k (length l))
       (λ y. let g = ltb-true k (length l) y in absurd (yes-or-no (filledAt full k) (f .passes (omega arith)) (in-word k g)))
       (λ n.
@@ -108,7 +108,7 @@ module _ (l : List ℕ) (c : clear l ≡ true) (h : length l ≤ 40) where
       (λ m. let d = ltb-false (length l) k m in omega arith))
 
   word-so : take (endOf full) full ≡ l
-  word-so = rw (ends-so, take-take (length l) 40 (l ++ fill) h) (take-at l fill (length l) refl)
+  word-so = rw (ends-so, take-take (length l) 48 (l ++ fill) h) (take-at l fill (length l) refl)
 
 pub word-in : (k : ℕ) → k < many → take (endOf (row k)) (row k) ≡ wordText k
 unfolding row rows filled wordText plain
@@ -116,18 +116,18 @@ word-in k h =
     let w = getD words k "" in
     let g : k < length words = omega (arith, length-words) in
     let p = plain-at words k all-plain g in
-    rw (getD-map words k [] g) (word-so (signs w) (left-true (clear (signs w)) (leb (length (signs w)) 40) p) (leb-true _ _ (right-true (clear (signs w)) (leb (length (signs w)) 40) p)))
+    rw (getD-map words k [] g) (word-so (signs w) (left-true (clear (signs w)) (leb (length (signs w)) 48) p) (leb-true _ _ (right-true (clear (signs w)) (leb (length (signs w)) 48) p)))
 
 pub none-past : (k : ℕ) → many ≤ k → wordText k ≡ []
 unfolding wordText words
 none-past k h = rw (List·getD-eq-default words "" h)
 
--- no word has more than 40 signs
-end-high : (r : List ℕ) → endOf r ≤ 40
+-- no word has more than 48 signs
+end-high : (r : List ℕ) → endOf r ≤ 48
 unfolding endOf
-end-high r = first-is (filledAt r) 0 40 .high
+end-high r = first-is (filledAt r) 0 48 .high
 
-pub word-short : (k : ℕ) → length (wordText k) ≤ 40
+pub word-short : (k : ℕ) → length (wordText k) ≤ 48
 word-short k =
     either (ltb k many) (λ y. rw (← word-in k (ltb-true k many y)) (omega (arith, length-take (endOf (row k)) (row k), end-high (row k))))
     (λ n. rw (none-past k (ltb-false k many n)) (omega arith))

@@ -22,7 +22,7 @@ words =
     ∷ "fast"
     ∷ "accepted"
     ∷ "accepted: ON in Normal"
-    ∷ "not 1 to 66 pairs of hexadecimal digits"
+    ∷ "not 1 to 66 pairs of digits 0 to 9 and a to f"
     ∷ "of an unknown kind, or a wrong length"
     ∷ "refused 71"
     ∷ "refused 72"
@@ -35,14 +35,14 @@ words =
     ∷ "refused 75: core not pending"
     ∷ "not served"
     ∷ "no valid argument"
-    ∷ "another's page"
+    ∷ "not the giver's"
     ∷ "already ON"
     ∷ "already pending"
     ∷ "no pages asked for"
     ∷ "a page is mapped"
     ∷ "bad start address"
     ∷ "16 mappings held"
-    ∷ "overlaps a mapping"
+    ∷ "overlaps another"
     ∷ "not its own page"
     ∷ "leads nowhere"
     ∷ "not well formed"
@@ -50,15 +50,16 @@ words =
     ∷ "past the limits"
     ∷ "refused -"
     ∷ "granted"
+    ∷ "answered 0, known"
     ∷ "answered "
-    ∷ "answered 10003, version 1.3"
-    ∷ "answered 10001, version 1.1"
+    ∷ "answered version 1.3"
+    ∷ "answered version 1.1"
     ∷ "answered 0, ON"
     ∷ "answered 1, OFF"
     ∷ "answered 2, pending"
     ∷ "answered 1, yes"
     ∷ "answered 0, no"
-    ∷ "leads to "
+    ∷ "to "
     ∷ " runs now"
     ∷ "the core is OFF now"
     ∷ "tell the version of calls"
@@ -77,7 +78,7 @@ words =
     ∷ "unmap "
     ∷ "tell where this address leads: "
     ∷ "count the cores that are ON"
-    ∷ "finish"
+    ∷ "finish with "
     ∷ "call "
     ∷ " from "
     ∷ " at "
@@ -87,6 +88,7 @@ words =
     ∷ " "
     ∷ " page"
     ∷ " pages"
+    ∷ " byte"
     ∷ " bytes"
     ∷ "attributes "
     ∷ "set-up"
@@ -120,7 +122,7 @@ words =
     ∷ []
 
 abbrev pub many : ℕ
-many = 110
+many = 112
 
 -- the text of a word; nothing past the last
 unfoldable pub wordText : ℕ → List ℕ
@@ -262,208 +264,214 @@ minus = 41
 abbrev pub granted : ℕ
 granted = 42
 
+abbrev pub known : ℕ
+known = 43
+
 abbrev pub answered : ℕ
-answered = 43
+answered = 44
 
 abbrev pub version : ℕ
-version = 44
+version = 45
 
 abbrev pub powerVersion : ℕ
-powerVersion = 45
+powerVersion = 46
 
 abbrev pub isOn : ℕ
-isOn = 46
+isOn = 47
 
 abbrev pub isOff : ℕ
-isOff = 47
+isOff = 48
 
 abbrev pub isPending : ℕ
-isPending = 48
+isPending = 49
 
 abbrev pub owned : ℕ
-owned = 49
+owned = 50
 
 abbrev pub unowned : ℕ
-unowned = 50
+unowned = 51
 
 abbrev pub leads : ℕ
-leads = 51
+leads = 52
 
 abbrev pub runs : ℕ
-runs = 52
+runs = 53
 
 abbrev pub off : ℕ
-off = 53
+off = 54
 
 -- ---- what a call asks
 abbrev pub askCalls : ℕ
-askCalls = 54
+askCalls = 55
 
 abbrev pub askKnown : ℕ
-askKnown = 55
+askKnown = 56
 
 abbrev pub askPower : ℕ
-askPower = 56
+askPower = 57
 
 abbrev pub turnOff : ℕ
-turnOff = 57
+turnOff = 58
 
 abbrev pub start : ℕ
-start = 58
+start = 59
 
 abbrev pub askState : ℕ
-askState = 59
+askState = 60
 
 abbrev pub askPowers : ℕ
-askPowers = 60
+askPowers = 61
 
 abbrev pub takePage : ℕ
-takePage = 61
+takePage = 62
 
 abbrev pub givePage : ℕ
-givePage = 62
+givePage = 63
 
 abbrev pub take : ℕ
-take = 63
+take = 64
 
 abbrev pub give : ℕ
-give = 64
+give = 65
 
 abbrev pub askOwner : ℕ
-askOwner = 65
+askOwner = 66
 
 abbrev pub map : ℕ
-map = 66
+map = 67
 
 abbrev pub unmap : ℕ
-unmap = 67
+unmap = 68
 
 abbrev pub askWhere : ℕ
-askWhere = 68
+askWhere = 69
 
 abbrev pub count : ℕ
-count = 69
+count = 70
 
 abbrev pub finish : ℕ
-finish = 70
+finish = 71
 
 abbrev pub other : ℕ
-other = 71
+other = 72
 
 -- ---- between its arguments
 abbrev pub from : ℕ
-from = 72
+from = 73
 
 abbrev pub at : ℕ
-at = 73
+at = 74
 
 abbrev pub context : ℕ
-context = 74
+context = 75
 
 abbrev pub level : ℕ
-level = 75
+level = 76
 
 abbrev pub comma : ℕ
-comma = 76
+comma = 77
 
 abbrev pub blank : ℕ
-blank = 77
+blank = 78
 
 abbrev pub page : ℕ
-page = 78
+page = 79
 
 abbrev pub pages : ℕ
-pages = 79
+pages = 80
+
+abbrev pub byte : ℕ
+byte = 81
 
 abbrev pub bytes : ℕ
-bytes = 80
+bytes = 82
 
 abbrev pub attributes : ℕ
-attributes = 81
+attributes = 83
 
 -- ---- a frame of set-up, an arrival, and no frame
 abbrev pub setup : ℕ
-setup = 82
+setup = 84
 
 abbrev pub noFrame : ℕ
-noFrame = 83
+noFrame = 85
 
 abbrev pub core : ℕ
-core = 84
+core = 86
 
 abbrev pub colon : ℕ
-colon = 85
+colon = 87
 
 abbrev pub window : ℕ
-window = 86
+window = 88
 
 abbrev pub oneCore : ℕ
-oneCore = 87
+oneCore = 89
 
 abbrev pub cores : ℕ
-cores = 88
+cores = 90
 
 abbrev pub calls : ℕ
-calls = 89
+calls = 91
 
 abbrev pub upTo : ℕ
-upTo = 90
+upTo = 92
 
 abbrev pub goTo : ℕ
-goTo = 91
+goTo = 93
 
 abbrev pub handler : ℕ
-handler = 92
+handler = 94
 
 abbrev pub kind : ℕ
-kind = 93
+kind = 95
 
 abbrev pub fromPage : ℕ
-fromPage = 94
+fromPage = 96
 
 abbrev pub owner : ℕ
-owner = 95
+owner = 97
 
 abbrev pub number : ℕ
-number = 96
+number = 98
 
 abbrev pub arrives : ℕ
-arrives = 97
+arrives = 99
 
 -- ---- how things stand in the end
 abbrev pub stands : ℕ
-stands = 98
+stands = 100
 
 abbrev pub onAnd : ℕ
-onAnd = 99
+onAnd = 101
 
 abbrev pub pending : ℕ
-pending = 100
+pending = 102
 
 abbrev pub offStill : ℕ
-offStill = 101
+offStill = 103
 
 abbrev pub line : ℕ
-line = 102
+line = 104
 
 abbrev pub unnamed : ℕ
-unnamed = 103
+unnamed = 105
 
 abbrev pub maps : ℕ
-maps = 104
+maps = 106
 
 abbrev pub noMappings : ℕ
-noMappings = 105
+noMappings = 107
 
 abbrev pub noWindow : ℕ
-noWindow = 106
+noWindow = 108
 
 abbrev pub outside : ℕ
-outside = 107
+outside = 109
 
 -- ---- under the picture
 abbrev pub legend : ℕ
-legend = 108
+legend = 110
 
 abbrev pub capitals : ℕ
-capitals = 109
+capitals = 111

@@ -93,141 +93,145 @@ pub const MINUS: u64 = 41;
 
 pub const GRANTED: u64 = 42;
 
-pub const ANSWERED: u64 = 43;
+pub const KNOWN: u64 = 43;
 
-pub const VERSION: u64 = 44;
+pub const ANSWERED: u64 = 44;
 
-pub const POWER_VERSION: u64 = 45;
+pub const VERSION: u64 = 45;
 
-pub const IS_ON: u64 = 46;
+pub const POWER_VERSION: u64 = 46;
 
-pub const IS_OFF: u64 = 47;
+pub const IS_ON: u64 = 47;
 
-pub const IS_PENDING: u64 = 48;
+pub const IS_OFF: u64 = 48;
 
-pub const OWNED: u64 = 49;
+pub const IS_PENDING: u64 = 49;
 
-pub const UNOWNED: u64 = 50;
+pub const OWNED: u64 = 50;
 
-pub const LEADS: u64 = 51;
+pub const UNOWNED: u64 = 51;
 
-pub const RUNS: u64 = 52;
+pub const LEADS: u64 = 52;
 
-pub const OFF: u64 = 53;
+pub const RUNS: u64 = 53;
+
+pub const OFF: u64 = 54;
 
 // What a call asks.
-pub const ASK_CALLS: u64 = 54;
+pub const ASK_CALLS: u64 = 55;
 
-pub const ASK_KNOWN: u64 = 55;
+pub const ASK_KNOWN: u64 = 56;
 
-pub const ASK_POWER: u64 = 56;
+pub const ASK_POWER: u64 = 57;
 
-pub const TURN_OFF: u64 = 57;
+pub const TURN_OFF: u64 = 58;
 
-pub const START: u64 = 58;
+pub const START: u64 = 59;
 
-pub const ASK_STATE: u64 = 59;
+pub const ASK_STATE: u64 = 60;
 
-pub const ASK_POWERS: u64 = 60;
+pub const ASK_POWERS: u64 = 61;
 
-pub const TAKE_PAGE: u64 = 61;
+pub const TAKE_PAGE: u64 = 62;
 
-pub const GIVE_PAGE: u64 = 62;
+pub const GIVE_PAGE: u64 = 63;
 
-pub const TAKE: u64 = 63;
+pub const TAKE: u64 = 64;
 
-pub const GIVE: u64 = 64;
+pub const GIVE: u64 = 65;
 
-pub const ASK_OWNER: u64 = 65;
+pub const ASK_OWNER: u64 = 66;
 
-pub const MAP: u64 = 66;
+pub const MAP: u64 = 67;
 
-pub const UNMAP: u64 = 67;
+pub const UNMAP: u64 = 68;
 
-pub const ASK_WHERE: u64 = 68;
+pub const ASK_WHERE: u64 = 69;
 
-pub const COUNT: u64 = 69;
+pub const COUNT: u64 = 70;
 
-pub const FINISH: u64 = 70;
+pub const FINISH: u64 = 71;
 
-pub const OTHER: u64 = 71;
+pub const OTHER: u64 = 72;
 
 // Between its arguments.
-pub const FROM: u64 = 72;
+pub const FROM: u64 = 73;
 
-pub const AT: u64 = 73;
+pub const AT: u64 = 74;
 
-pub const CONTEXT: u64 = 74;
+pub const CONTEXT: u64 = 75;
 
-pub const LEVEL: u64 = 75;
+pub const LEVEL: u64 = 76;
 
-pub const COMMA: u64 = 76;
+pub const COMMA: u64 = 77;
 
-pub const BLANK: u64 = 77;
+pub const BLANK: u64 = 78;
 
-pub const PAGE: u64 = 78;
+pub const PAGE: u64 = 79;
 
-pub const PAGES: u64 = 79;
+pub const PAGES: u64 = 80;
 
-pub const BYTES: u64 = 80;
+pub const BYTE: u64 = 81;
 
-pub const ATTRIBUTES: u64 = 81;
+pub const BYTES: u64 = 82;
+
+pub const ATTRIBUTES: u64 = 83;
 
 // A frame of set-up, an arrival, and no frame.
-pub const SETUP: u64 = 82;
+pub const SETUP: u64 = 84;
 
-pub const NO_FRAME: u64 = 83;
+pub const NO_FRAME: u64 = 85;
 
-pub const CORE: u64 = 84;
+pub const CORE: u64 = 86;
 
-pub const COLON: u64 = 85;
+pub const COLON: u64 = 87;
 
-pub const WINDOW: u64 = 86;
+pub const WINDOW: u64 = 88;
 
-pub const ONE_CORE: u64 = 87;
+pub const ONE_CORE: u64 = 89;
 
-pub const CORES: u64 = 88;
+pub const CORES: u64 = 90;
 
-pub const CALLS: u64 = 89;
+pub const CALLS: u64 = 91;
 
-pub const UP_TO: u64 = 90;
+pub const UP_TO: u64 = 92;
 
-pub const GO_TO: u64 = 91;
+pub const GO_TO: u64 = 93;
 
-pub const HANDLER: u64 = 92;
+pub const HANDLER: u64 = 94;
 
-pub const KIND: u64 = 93;
+pub const KIND: u64 = 95;
 
-pub const FROM_PAGE: u64 = 94;
+pub const FROM_PAGE: u64 = 96;
 
-pub const OWNER: u64 = 95;
+pub const OWNER: u64 = 97;
 
-pub const NUMBER: u64 = 96;
+pub const NUMBER: u64 = 98;
 
-pub const ARRIVES: u64 = 97;
+pub const ARRIVES: u64 = 99;
 
 // How things stand in the end.
-pub const STANDS: u64 = 98;
+pub const STANDS: u64 = 100;
 
-pub const ON_AND: u64 = 99;
+pub const ON_AND: u64 = 101;
 
-pub const PENDING: u64 = 100;
+pub const PENDING: u64 = 102;
 
-pub const OFF_STILL: u64 = 101;
+pub const OFF_STILL: u64 = 103;
 
-pub const LINE: u64 = 102;
+pub const LINE: u64 = 104;
 
-pub const UNNAMED: u64 = 103;
+pub const UNNAMED: u64 = 105;
 
-pub const MAPS: u64 = 104;
+pub const MAPS: u64 = 106;
 
-pub const NO_MAPPINGS: u64 = 105;
+pub const NO_MAPPINGS: u64 = 107;
 
-pub const NO_WINDOW: u64 = 106;
+pub const NO_WINDOW: u64 = 108;
 
-pub const OUTSIDE: u64 = 107;
+pub const OUTSIDE: u64 = 109;
 
 // Under the picture.
-pub const LEGEND: u64 = 108;
+pub const LEGEND: u64 = 110;
 
-pub const CAPITALS: u64 = 109;
+pub const CAPITALS: u64 = 111;

@@ -1,8 +1,8 @@
 -- `argument` meets its promise: what is told stands behind its word.
-use Rattle.asking.specs.Forms.{slotting}
 use borrow.Author.Needs.{needs}
 use Rattle.asking.proofs.argument.Statement.{statement}
 use Rattle.asking.proofs.argument.Tie as tie
+use Rattle.asking.specs.Forms.{slotting}
 
 returns : tie.Need-returns
 returns c = search (slotting, needs)

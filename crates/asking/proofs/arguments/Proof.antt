@@ -1,8 +1,8 @@
 -- `arguments` meets its promise, an argument behind the other.
-use Rattle.asking.specs.Forms.{slotting}
 use borrow.Author.Needs.{needs}
 use Rattle.asking.proofs.arguments.Statement.{statement}
 use Rattle.asking.proofs.arguments.Tie as tie
+use Rattle.asking.specs.Forms.{slotting}
 
 array-read-argument : tie.Need-array-read-argument
 array-read-argument c = search needs
@@ -52,6 +52,18 @@ array-read-argument-12 c = search needs
 argument-requires-4 : tie.Need-argument-requires-4
 argument-requires-4 c κs = search needs
 
+array-read-argument-13 : tie.Need-array-read-argument-13
+array-read-argument-13 c = search needs
+
+array-read-argument-14 : tie.Need-array-read-argument-14
+array-read-argument-14 c = search needs
+
+array-read-argument-15 : tie.Need-array-read-argument-15
+array-read-argument-15 c = search needs
+
+argument-requires-5 : tie.Need-argument-requires-5
+argument-requires-5 c κs = search needs
+
 returns : tie.Need-returns
 returns c = search (slotting, needs)
 
@@ -75,4 +87,8 @@ arguments-spec =
     array-read-argument-11
     array-read-argument-12
     argument-requires-4
+    array-read-argument-13
+    array-read-argument-14
+    array-read-argument-15
+    argument-requires-5
     returns)

@@ -1,9 +1,9 @@
 -- `value` meets its promise, one way of telling at a time.
-use Rattle.asking.specs.Forms.{valued, value-row, value-bytes, value-last}
-use Rattle.rules.specs.Choice.{pick}
 use borrow.Author.Needs.{needs}
 use Rattle.asking.proofs.value.Statement.{statement}
 use Rattle.asking.proofs.value.Tie as tie
+use Rattle.asking.specs.Forms.{valued, value-row, value-last}
+use Rattle.rules.specs.Choice.{pick}
 
 with-requires : tie.Need-with-requires
 with-requires c κs = search needs
@@ -14,11 +14,8 @@ with-requires-2 c κs = search needs
 count-requires : tie.Need-count-requires
 count-requires c κs = search needs
 
-with-requires-3 : tie.Need-with-requires-3
-with-requires-3 c κs = search needs
-
-with-requires-4 : tie.Need-with-requires-4
-with-requires-4 c κs = search needs
+count-requires-2 : tie.Need-count-requires-2
+count-requires-2 c κs = search needs
 
 name-requires : tie.Need-name-requires
 name-requires c κs = search needs
@@ -40,7 +37,8 @@ unfolding valued pick
 returns-4 c = search (value-row, needs)
 
 returns-5 : tie.Need-returns-5
-returns-5 c = search (value-bytes, needs)
+unfolding valued pick
+returns-5 c = search (value-row, needs)
 
 returns-6 : tie.Need-returns-6
 returns-6 c = search (value-last, needs)
@@ -52,8 +50,7 @@ value-spec =
     with-requires
     with-requires-2
     count-requires
-    with-requires-3
-    with-requires-4
+    count-requires-2
     name-requires
     returns
     returns-2

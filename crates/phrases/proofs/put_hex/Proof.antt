@@ -1,8 +1,8 @@
 -- `put_hex` meets its promise, since its branches are those of the definition.
-use Rattle.phrases.specs.Text.{parts}
 use borrow.Author.Needs.{needs}
 use Rattle.phrases.proofs.put_hex.Statement.{statement}
 use Rattle.phrases.proofs.put_hex.Tie as tie
+use Rattle.phrases.specs.Text.{parts}
 
 put-digits-requires : tie.Need-put-digits-requires
 put-digits-requires c κs = search needs
@@ -22,6 +22,15 @@ same-length-2 c = search needs
 returns-2 : tie.Need-returns-2
 returns-2 c = search (parts, needs)
 
+put-digits-requires-3 : tie.Need-put-digits-requires-3
+put-digits-requires-3 c κs = search needs
+
+same-length-3 : tie.Need-same-length-3
+same-length-3 c = search needs
+
+returns-3 : tie.Need-returns-3
+returns-3 c = search (parts, needs)
+
 pub put-hex-spec : {M : Type 1} → statement M
 put-hex-spec =
     tie.close
@@ -31,4 +40,7 @@ put-hex-spec =
     returns
     put-digits-requires-2
     same-length-2
-    returns-2)
+    returns-2
+    put-digits-requires-3
+    same-length-3
+    returns-3)

@@ -1,8 +1,8 @@
 -- `tell` meets its promise, a frame at a time.
-use Rattle.telling.specs.Telling.{tells}
 use borrow.Author.Needs.{needs}
 use Rattle.telling.proofs.tell.Statement.{statement}
 use Rattle.telling.proofs.tell.Tie as tie
+use Rattle.telling.specs.Telling.{tells}
 
 enum-known-frame : tie.Need-enum-known-frame
 enum-known-frame c = search needs
@@ -37,8 +37,14 @@ enum-known-frame-4 c = search needs
 speaker-requires : tie.Need-speaker-requires
 speaker-requires c κs = search needs
 
+is-handed-requires : tie.Need-is-handed-requires
+is-handed-requires c κs = search needs
+
 ask-requires : tie.Need-ask-requires
 ask-requires c κs = search needs
+
+done-word-requires : tie.Need-done-word-requires
+done-word-requires c κs = search needs
 
 outcome-requires-4 : tie.Need-outcome-requires-4
 outcome-requires-4 c κs = search needs
@@ -94,7 +100,9 @@ tell-spec =
     outcome-requires-3
     enum-known-frame-4
     speaker-requires
+    is-handed-requires
     ask-requires
+    done-word-requires
     outcome-requires-4
     enum-known-frame-5
     arrival-requires

@@ -9,7 +9,7 @@ use Rattle.words.proofs.end_of.Statement.{statement}
 use Rattle.words.proofs.end_of.Tie as tie
 
 abbrev Inv-loop : tie.InvT-loop
-Inv-loop r i₀ unseen₀ i unseen = (endOf r ≡ first (filledAt r) i unseen) × (i + unseen ≡ 40)
+Inv-loop r i₀ unseen₀ i unseen = (endOf r ≡ first (filledAt r) i unseen) × (i + unseen ≡ 48)
 
 abbrev μ-loop : tie.MeasureT-loop
 μ-loop r i₀ unseen₀ i unseen = unseen
