@@ -46,7 +46,7 @@ fn judge_call(setup: &Setup, core: u64, powers: &Powers) -> Verdict
     setup::judge_core(setup, core, false)
 }
 
-// Frame 20: a call on a core that is ON. Set-up has then ended.
+// Frame 20: a call on a core that is ON. Set-up ends first, and is not looked at again.
 pub fn try_call(
     setup: &mut Setup,
     core: u64,
@@ -62,8 +62,8 @@ pub fn try_call(
 {
     let Verdict::Refused(why) = judge_call(setup, core, powers) else {
         let site = site_of(setup);
-        let made = calls::call(site, core, x, book, owners, saved, powers, turns, lists);
         setup::end(setup);
+        let made = calls::call(site, core, x, book, owners, saved, powers, turns, lists);
         return Tried::Called(made);
     };
     Tried::Refused(why)

@@ -1,4 +1,4 @@
--- A refused frame changes nothing; else the call's step is made, and set-up ends.
+-- A refused frame changes nothing; else set-up ends, and the call's step is made.
 use borrow.Author.Needs.{needs}
 use Rattle.calling.specs.Laws.{tries}
 use Rattle.calling.proofs.try_call.Statement.{statement}
@@ -16,11 +16,11 @@ enum-told c = search needs
 site-of-requires : tie.Need-site-of-requires
 site-of-requires c κs = search needs
 
-call-requires : tie.Need-call-requires
-call-requires c κs = search needs
-
 end-requires : tie.Need-end-requires
 end-requires c κs = search needs
+
+call-requires : tie.Need-call-requires
+call-requires c κs = search needs
 
 returns : tie.Need-returns
 returns c = search tries
@@ -36,7 +36,7 @@ try-call-spec =
     enum-known-why
     enum-told
     site-of-requires
-    call-requires
     end-requires
+    call-requires
     returns
     returns-2)
