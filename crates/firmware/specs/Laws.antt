@@ -32,7 +32,7 @@ use Rattle.calling.specs.declared.Tried.{Tried}
 use Rattle.calling.specs.declared.Tried.the-variants as Tried
 use Rattle.setup.specs.Table.{unset}
 use Rattle.frames.specs.Frames.{machine, first}
-use Rattle.firmware.specs.Numbers.{inByte, refusal, toldOf, telling, callTold, ledTo}
+use Rattle.firmware.specs.Numbers.{inByte, refusal, listed, telling, callTold, ledTo}
 
 -- ---- fresh tables
 pub all-fresh : (s n l o v p t k : List ℕ) → s ≡ unset → n ≡ unnamed → l ≡ empty → o ≡ unowned → v ≡ zeros → p ≡ firstPowers → t ≡ firstTurns → k ≡ unmapped
@@ -72,18 +72,18 @@ seven (_ ∷ _ ∷ _ ∷ _ ∷ _ ∷ _ ∷ []) a b c d e f g h = absurd (omega a
 seven (_ ∷ _ ∷ _ ∷ _ ∷ _ ∷ _ ∷ _ ∷ []) a b c d e f g h = refl
 seven (_ ∷ _ ∷ _ ∷ _ ∷ _ ∷ _ ∷ _ ∷ _ ∷ t) a b c d e f g h = absurd (omega arith)
 
-pub tells : (t v : List ℕ) (made : Made) (core runs world a b c d n : ℕ) → length t ≡ 7
-    → a ≡ saved v core world 0 → b ≡ saved v core world 1 → c ≡ saved v core world 2 → d ≡ saved v core world 3 → n ≡ refusal (made .answer)
-    → set (set (set (set (set (set (set t 0 runs) 1 a) 2 b) 3 c) 4 d) 5 (made .caller)) 6 n ≡ toldOf made runs (shownOf v core world)
+pub tells : (t v : List ℕ) (caller refused core runs world a b c d : ℕ) → length t ≡ 7
+    → a ≡ saved v core world 0 → b ≡ saved v core world 1 → c ≡ saved v core world 2 → d ≡ saved v core world 3
+    → set (set (set (set (set (set (set t 0 runs) 1 a) 2 b) 3 c) 4 d) 5 caller) 6 refused ≡ listed runs (shownOf v core world) caller refused
 unfolding shownOf
-tells t v made core runs world a b c d n h i j k l m = seven t runs a b c d (made .caller) n h ∙ rw (i, j, k, l, m)
+tells t v caller refused core runs world a b c d h i j k l = seven t runs a b c d caller refused h ∙ rw (i, j, k, l)
 
-module _ (told t′ : List ℕ) (made : Made) (core : ℕ) (v p t : List ℕ) (w : Power) (on : Bool) (is : w ≡ power p core) (said : on ≡ isOn w) where
-  pub tells-on : (u : Turn) → on ≡ true → u ≡ turn t core → t′ ≡ toldOf made (u .world) (shownOf v core (u .world)) → t′ ≡ telling told made (shownOn core v p t)
-  tells-on u e f g = rw (← shows-on core v p t w on is said u (shownOf v core (u .world)) e f refl) g
+module _ (told t′ : List ℕ) (made : Made) (core : ℕ) (v p t : List ℕ) (w : Power) (on : Bool) (is : w ≡ power p core) (said : on ≡ isOn w) (n : ℕ) (no : n ≡ refusal (made .answer)) where
+  pub tells-on : (u : Turn) → on ≡ true → u ≡ turn t core → t′ ≡ listed (u .world) (shownOf v core (u .world)) (made .caller) n → t′ ≡ telling told made (shownOn core v p t)
+  tells-on u e f g = rw (← shows-on core v p t w on is said u (shownOf v core (u .world)) e f refl, ← no) g
 
-  pub tells-off : on ≡ false → t′ ≡ toldOf made 255 (shownOf v core normal) → t′ ≡ telling told made (shownOn core v p t)
-  tells-off e g = rw (← shows-off core v p t w on is said (shownOf v core normal) e refl) g
+  pub tells-off : on ≡ false → t′ ≡ listed 255 (shownOf v core normal) (made .caller) n → t′ ≡ telling told made (shownOn core v p t)
+  tells-off e g = rw (← shows-off core v p t w on is said (shownOf v core normal) e refl, ← no) g
 
 pub ruleset tellings = (tells-on, tells-off)
 

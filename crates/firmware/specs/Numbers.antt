@@ -39,9 +39,11 @@ refusal (No r) = minus r
 
 -- the seven numbers that are told of a call: the world that now runs, 255 where the core is not ON; x0 to x3 as a frame shows
 -- them; who called; the refusal
+abbrev pub listed : ℕ → Shown → ℕ → ℕ → List ℕ
+listed world x caller refused = world ∷ x .x0 ∷ x .x1 ∷ x .x2 ∷ x .x3 ∷ caller ∷ refused ∷ []
+
 abbrev pub toldOf : Made → ℕ → Shown → List ℕ
-toldOf made world x =
-    world ∷ x .x0 ∷ x .x1 ∷ x .x2 ∷ x .x3 ∷ made .caller ∷ refusal (made .answer) ∷ []
+toldOf made world x = listed world x (made .caller) (refusal (made .answer))
 
 -- what C has then been told; what is shown of a core is never a status, as `shownOn` says
 abbrev pub telling : List ℕ → Made → Reply → List ℕ

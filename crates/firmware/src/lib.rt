@@ -12,7 +12,7 @@ ghost use Rattle.calling.specs.Calling.{siteOf};
 ghost use Rattle.arriving.specs.Arriving.{arriving};
 ghost use Rattle.frames.specs.Frames.{machine, first};
 ghost use Rattle.showing.specs.Showing.{shownOn};
-ghost use Rattle.firmware.specs.Numbers.{inByte, refusal, toldOf, telling, callTold, ledTo};
+ghost use Rattle.firmware.specs.Numbers.{inByte, refusal, listed, telling, callTold, ledTo};
 use calling::Tried;
 use calls::Made;
 use cores::Powers;
@@ -139,32 +139,50 @@ fn see_room(told: &Told) -> u64
 
 // What is told where the numbers of a world are shown. Each is read and written by itself: two that are read at once, of which
 // the call has just written one, keep a processor waiting.
-fn tell_of(told: &mut Told, made: Made, core: u64, runs: u64, world: u64, saved: &Saved)
-    ensures { λ _. ⌜ now (told .exit) ≡ toldOf made runs (shownOf (now (saved .entry)) core world) ⌝ }
+fn tell_of(
+    told: &mut Told,
+    made: Made,
+    refused: u64,
+    core: u64,
+    runs: u64,
+    world: u64,
+    saved: &Saved,
+)
+    ensures { λ _. ⌜ now (told .exit) ≡ listed runs (shownOf (now (saved .entry)) core world) (made .caller) refused ⌝ }
 {
     see_room(told);
-    let answer = made.answer;
     told[TOLD_WORLD] = runs;
     told[TOLD_X0] = registers::number(saved, core, world, 0);
     told[TOLD_X1] = registers::number(saved, core, world, 1);
     told[TOLD_X2] = registers::number(saved, core, world, 2);
     told[TOLD_X3] = registers::number(saved, core, world, 3);
     told[TOLD_CALLER] = made.caller;
-    told[TOLD_REFUSED] = refusal_of(answer);
+    told[TOLD_REFUSED] = refused;
 }
 
-// What is told of an accepted call, by the world that then runs; of a core that went OFF Normal's numbers are shown.
+// What is told of an accepted call, by the world that then runs; of a core that went OFF Normal's numbers are shown. The refusal is
+// worked out first, where the answer is still known.
 fn tell(told: &mut Told, made: Made, core: u64, saved: &Saved, powers: &Powers, turns: &Turns)
     ensures { λ _. ⌜ now (told .exit) ≡ telling (now (told .entry)) made (shownOn core (now (saved .entry)) (now (powers .entry)) (now (turns .entry))) ⌝ }
 {
+    let answer = made.answer;
+    let refused = refusal_of(answer);
     let power = cores::power_of(powers, core);
     if power.is_on() {
         let turn = cores::turn_of(turns, core);
         let world = turn.world;
-        tell_of(told, made, core, world, world, saved);
+        tell_of(told, made, refused, core, world, world, saved);
         return;
     }
-    tell_of(told, made, core, showing::NO_WORLD, rules::NORMAL, saved);
+    tell_of(
+        told,
+        made,
+        refused,
+        core,
+        showing::NO_WORLD,
+        rules::NORMAL,
+        saved,
+    );
 }
 
 // A call by the world that runs on a core, with its eight numbers.

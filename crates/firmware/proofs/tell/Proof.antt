@@ -4,6 +4,9 @@ use Rattle.firmware.specs.Laws.{tellings}
 use Rattle.firmware.proofs.tell.Statement.{statement}
 use Rattle.firmware.proofs.tell.Tie as tie
 
+refusal-of-requires : tie.Need-refusal-of-requires
+refusal-of-requires c κs = search needs
+
 power-of-requires : tie.Need-power-of-requires
 power-of-requires c κs = search needs
 
@@ -29,6 +32,7 @@ pub tell-spec : {M : Type 1} → statement M
 tell-spec =
     tie.close
     (tie.spec
+    refusal-of-requires
     power-of-requires
     is-on-requires
     turn-of-requires

@@ -37,9 +37,6 @@ element-write-told-5 c = search needs
 element-write-told-6 : tie.Need-element-write-told-6
 element-write-told-6 c = search needs
 
-refusal-of-requires : tie.Need-refusal-of-requires
-refusal-of-requires c κs = search needs
-
 element-write-told-7 : tie.Need-element-write-told-7
 element-write-told-7 c = search needs
 
@@ -61,6 +58,5 @@ tell-of-spec =
     number-requires-4
     element-write-told-5
     element-write-told-6
-    refusal-of-requires
     element-write-told-7
     returns)
