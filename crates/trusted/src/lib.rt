@@ -30,12 +30,19 @@ pub fn finish(from: u64, v: Caller) -> Judged
     grant(Answer::Silent, Deed::Finish)
 }
 
-// A call that reaches handler 3: the finish by its one identifier, a hand-over by any other.
+// A call that reaches handler 3: the finish by its one identifier, a hand-over by any other. Normal, which hands over, is told apart
+// first, so that the two are two ways to the end.
 pub fn trusted_call(v: Caller, key: u32) -> Judged
     ensures { λ r. ⌜ r ≡ trusted v key ⌝ }
 {
+    if v.world == rules::NORMAL {
+        if key == names::SECURE_FINISH {
+            return refuse(Reason::Unserved);
+        }
+        return hand_over(rules::SECURE, v);
+    }
     if key == names::SECURE_FINISH {
         return finish(rules::SECURE, v);
     }
-    hand_over(rules::SECURE, v)
+    refuse(Reason::Unserved)
 }
