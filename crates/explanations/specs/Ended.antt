@@ -1,4 +1,4 @@
--- What is told behind the lines of an input is what that input leaves.
+-- What is told behind the lines of an input is the end for what that input leaves.
 use mathlib.Core.Path.{_≡_}
 use mathlib.Core.Bool.{Bool, true}
 use mathlib.Core.List.{List}
@@ -15,19 +15,21 @@ use Rattle.origins.specs.Origins.{none}
 use Rattle.origins.specs.Lines.{noLine}
 use Rattle.tracing.specs.Traced.{Kept, start}
 use Rattle.views.specs.declared.View.{View}
-use Rattle.standings.specs.Through.{Told}
+use Rattle.endings.specs.Ending.{endText}
+use Rattle.standings.specs.Written.{Written}
 use Rattle.explain_reads.specs.Reading.{Ran}
 
 pub record Ended (v : View) : Type 0 where
   -- what some input leaves, from the first line on
   pub kept : Kept
   pub ran : Ran start kept
-  -- and that is told
-  pub told : Told v (kept .0 .setup) (kept .0 .owners) (kept .1 .0) (kept .0 .lists)
+  -- and the end that was written of that
+  pub space : List ℕ
+  pub told : Written (endText (kept .1 .1) (kept .0 .setup) (kept .0 .owners) (kept .1 .0) (kept .0 .powers) (kept .0 .turns) (kept .0 .lists) v) space
 
-pub ended : (v : View) (s n l o r p t k q c : List ℕ) (s′ n′ l′ o′ r′ p′ t′ k′ q′ c′ : List ℕ) (whole all : Bool)
+pub ended : (v : View) (s n l o r p t k q c : List ℕ) (s′ n′ l′ o′ r′ p′ t′ k′ q′ c′ : List ℕ) (whole all : Bool) (out : List ℕ)
     → s ≡ unset → n ≡ unnamed → l ≡ empty → o ≡ unowned → r ≡ zeros → p ≡ firstPowers → t ≡ firstTurns → k ≡ unmapped → q ≡ none → c ≡ noLine
     → (whole ≡ true → Ran (machine s n l o r p t k, (q, c)) (machine s′ n′ l′ o′ r′ p′ t′ k′, (q′, c′))) → whole ≡ true
-    → (all ≡ true → Told v s′ o′ q′ k′) → all ≡ true → Ended v
-ended v s n l o r p t k q c s′ n′ l′ o′ r′ p′ t′ k′ q′ c′ whole all a b d e f g h i j m ran y told z =
-    record { kept = (machine s′ n′ l′ o′ r′ p′ t′ k′, (q′, c′)); ran = rw (a, b, d, e, f, g, h, i, j, m) at (ran y); told = told z }
+    → (all ≡ true → Written (endText c′ s′ o′ q′ p′ t′ k′ v) out) → all ≡ true → Ended v
+ended v s n l o r p t k q c s′ n′ l′ o′ r′ p′ t′ k′ q′ c′ whole all out a b d e f g h i j m ran y told z =
+    record { kept = (machine s′ n′ l′ o′ r′ p′ t′ k′, (q′, c′)); ran = rw (a, b, d, e, f, g, h, i, j, m) at (ran y); space = out; told = told z }

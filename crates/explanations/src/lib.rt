@@ -36,8 +36,10 @@ pub fn explain(view: View) -> bool
         &mut turns,
         &mut lists,
     ) {
+        let mut out = [0u8; 65536];
         return standings::tell(
             view,
+            &mut out,
             &count,
             &setup,
             &owners,

@@ -48,31 +48,28 @@ unfoldable pub heldFrom : List ℕ → ℕ → ℕ
 heldFrom l i = first (isHeld l) i (places - i)
 
 -- ---- things, in their order
-unfoldable pub rangeThing : List ℕ → List ℕ → List ℕ → ℕ → Thing
-rangeThing s o t page = Range page (rangeEnd o t (window s .pages) page)
-
+-- the mapping at the first held place from this one on, that there is none at all, or the end
 unfoldable pub heldThing : List ℕ → ℕ → Thing
 heldThing l i = pick (ltb (heldFrom l i) places) (Held (heldFrom l i)) (pick (eqb i 0) NoMappings End)
 
-unfoldable pub afterHead : List ℕ → Thing
-afterHead s = pick (ready s) (Core 0) NoWindow
+-- the range from this page on; behind the last, the mappings
+unfoldable pub rangeThing : List ℕ → List ℕ → List ℕ → List ℕ → ℕ → Thing
+rangeThing s o t l page = pick (ltb page (window s .pages)) (Range page (rangeEnd o t (window s .pages) page)) (heldThing l 0)
 
-unfoldable pub afterCore : List ℕ → List ℕ → List ℕ → ℕ → Thing
-afterCore s o t core = pick (ltb (core + 1) (cores s)) (Core (core + 1)) (rangeThing s o t 0)
+-- this core; behind the last, the ranges
+unfoldable pub coreThing : List ℕ → List ℕ → List ℕ → List ℕ → ℕ → Thing
+coreThing s o t l core = pick (ltb core (cores s)) (Core core) (rangeThing s o t l 0)
 
-unfoldable pub afterRange : List ℕ → List ℕ → List ℕ → List ℕ → ℕ → Thing
-afterRange s o t l end = pick (ltb end (window s .pages)) (rangeThing s o t end) (heldThing l 0)
-
-unfoldable pub afterHeld : List ℕ → ℕ → Thing
-afterHeld l i = pick (ltb i places) (heldThing l (i + 1)) End
+unfoldable pub afterHead : List ℕ → List ℕ → List ℕ → List ℕ → Thing
+afterHead s o t l = pick (ready s) (coreThing s o t l 0) NoWindow
 
 -- the thing after another
 abbrev pub next : List ℕ → List ℕ → List ℕ → List ℕ → Thing → Thing
-next s o t l Head = afterHead s
+next s o t l Head = afterHead s o t l
 next s o t l NoWindow = End
-next s o t l (Core core) = afterCore s o t core
-next s o t l (Range page end) = afterRange s o t l end
-next s o t l (Held i) = afterHeld l i
+next s o t l (Core core) = coreThing s o t l (core + 1)
+next s o t l (Range page end) = rangeThing s o t l end
+next s o t l (Held i) = heldThing l (i + 1)
 next s o t l NoMappings = End
 next s o t l End = End
 
@@ -167,69 +164,55 @@ module _ (l : List ℕ) (i : ℕ) where
 
 pub ruleset helds = (held-some, held-none, held-end)
 
-pub range-so : (s o t : List ℕ) (page end : ℕ) (v : Window) → v ≡ window s → end ≡ rangeEnd o t (v .pages) page → Range page end ≡ rangeThing s o t page
-unfolding rangeThing
-range-so s o t page end v e h = rw (h, e)
-
-module _ (s : List ℕ) (b : Bool) (is : b ≡ ready s) where
-  pub head-ready : b ≡ true → Core 0 ≡ afterHead s
-  unfolding afterHead
-  head-ready e = picked _ _ _ _ (sym is ∙ e) refl
-
-  pub head-none : b ≡ false → NoWindow ≡ afterHead s
-  unfolding afterHead
-  head-none e = passed _ _ _ _ (sym is ∙ e) refl
-
-pub ruleset heads = (head-ready, head-none)
-
-module _ (s o t : List ℕ) (core n : ℕ) (is : n ≡ cores s) where
-  pub core-more : core + 1 < n → Core (core + 1) ≡ afterCore s o t core
-  unfolding afterCore
-  core-more h = rw (← is) (picked _ _ _ _ (lt-ltb (core + 1) n h) refl)
-
-  pub core-last : (r : Thing) → n ≤ core + 1 → r ≡ rangeThing s o t 0 → r ≡ afterCore s o t core
-  unfolding afterCore
-  core-last r h e = rw (← is) (passed _ _ _ _ (le-ltb (core + 1) n h) e)
-
-  pub core-past : (r : Thing) → n ≤ core → r ≡ rangeThing s o t 0 → r ≡ afterCore s o t core
-  core-past r h e = core-last r (omega arith) e
-
-pub ruleset after-cores = (core-more, core-last, core-past)
-
-module _ (s o t l : List ℕ) (end : ℕ) (v : Window) (is : v ≡ window s) (r : Thing) where
-  pub range-more : end < v .pages → r ≡ rangeThing s o t end → r ≡ afterRange s o t l end
-  unfolding afterRange
-  range-more h e = rw (← is) (picked _ _ _ _ (lt-ltb end (v .pages) h) e)
-
-  pub range-last : v .pages ≤ end → r ≡ heldThing l 0 → r ≡ afterRange s o t l end
-  unfolding afterRange
-  range-last h e = rw (← is) (passed _ _ _ _ (le-ltb end (v .pages) h) e)
-
-pub ruleset after-ranges = (range-more, range-last)
-
 module _ (l : List ℕ) (i : ℕ) where
-  pub held-more : (r : Thing) → i < places → r ≡ heldThing l (i + 1) → r ≡ afterHeld l i
-  unfolding afterHeld
-  held-more r h e = picked _ _ _ _ (lt-ltb i places h) e
+  pub held-past : places ≤ i → End ≡ heldThing l (i + 1)
+  held-past h = held-end l (i + 1) (i + 1) (from-none l (i + 1) (omega arith)) (omega arith) (λ z. absurd (omega arith))
 
-  pub held-past : places ≤ i → End ≡ afterHeld l i
-  unfolding afterHeld
-  held-past h = passed _ _ _ _ (le-ltb i places h) refl
+module _ (s o t l : List ℕ) where
+  module _ (page : ℕ) (v : Window) (is : v ≡ window s) where
+    pub range-here : (end : ℕ) → page < v .pages → end ≡ rangeEnd o t (v .pages) page → Range page end ≡ rangeThing s o t l page
+    unfolding rangeThing
+    range-here end h e = rw (← is, e) (picked _ _ _ _ (lt-ltb page (v .pages) h) refl)
 
-pub ruleset after-helds = (held-more, held-past)
+    pub range-past : (r : Thing) → v .pages ≤ page → r ≡ heldThing l 0 → r ≡ rangeThing s o t l page
+    unfolding rangeThing
+    range-past r h e = rw (← is) (passed _ _ _ _ (le-ltb page (v .pages) h) e)
+
+  module _ (core n : ℕ) (is : n ≡ cores s) where
+    pub core-here : core < n → Core core ≡ coreThing s o t l core
+    unfolding coreThing
+    core-here h = rw (← is) (picked _ _ _ _ (lt-ltb core n h) refl)
+
+    pub core-past : (r : Thing) → n ≤ core → r ≡ rangeThing s o t l 0 → r ≡ coreThing s o t l core
+    unfolding coreThing
+    core-past r h e = rw (← is) (passed _ _ _ _ (le-ltb core n h) e)
+
+  pub core-behind : (core n : ℕ) → n ≡ cores s → (r : Thing) → n ≤ core → r ≡ rangeThing s o t l 0 → r ≡ coreThing s o t l (core + 1)
+  core-behind core n is r h e = core-past (core + 1) n is r (omega arith) e
+
+  module _ (b : Bool) (is : b ≡ ready s) (r : Thing) where
+    pub head-ready : b ≡ true → r ≡ coreThing s o t l 0 → r ≡ afterHead s o t l
+    unfolding afterHead
+    head-ready e h = picked _ _ _ _ (sym is ∙ e) h
+
+    pub head-none : b ≡ false → r ≡ NoWindow → r ≡ afterHead s o t l
+    unfolding afterHead
+    head-none e h = passed _ _ _ _ (sym is ∙ e) h
+
+pub ruleset things = (range-here, range-past, core-here, core-past, core-behind, head-ready, head-none, held-past)
 
 -- ---- which thing it is
 module _ (s o t l : List ℕ) (x r : Thing) where
-  pub next-core : (core : ℕ) → x ≡ Core core → r ≡ afterCore s o t core → r ≡ next s o t l x
+  pub next-core : (core : ℕ) → x ≡ Core core → r ≡ coreThing s o t l (core + 1) → r ≡ next s o t l x
   next-core core e h = rw e h
 
-  pub next-range : (page end : ℕ) → x ≡ Range page end → r ≡ afterRange s o t l end → r ≡ next s o t l x
+  pub next-range : (page end : ℕ) → x ≡ Range page end → r ≡ rangeThing s o t l end → r ≡ next s o t l x
   next-range page end e h = rw e h
 
-  pub next-held : (i : ℕ) → x ≡ Held i → r ≡ afterHeld l i → r ≡ next s o t l x
+  pub next-held : (i : ℕ) → x ≡ Held i → r ≡ heldThing l (i + 1) → r ≡ next s o t l x
   next-held i e h = rw e h
 
-  pub next-head : x ≡ Head → r ≡ afterHead s → r ≡ next s o t l x
+  pub next-head : x ≡ Head → r ≡ afterHead s o t l → r ≡ next s o t l x
   next-head e h = rw e h
 
   pub next-alone : x ≡ NoWindow → r ≡ End → r ≡ next s o t l x

@@ -1,6 +1,7 @@
 // What there is to tell in the end, one thing after the other, and the sentence for each.
 ghost use mathlib.Core.Path.{_≡_};
-ghost use Rattle.inventory.specs.Inventory.{unlike, rangeEnd, isHeld, heldFrom, rangeThing, heldThing, afterHead, afterCore, afterRange, afterHeld, next, coreTold, rangeTold, heldTold, said, isEnd, pageEnd, pageTold};
+ghost use Prim.Native.Nat.{_+_};
+ghost use Rattle.inventory.specs.Inventory.{unlike, rangeEnd, isHeld, heldFrom, heldThing, rangeThing, coreThing, afterHead, next, coreTold, rangeTold, heldTold, said, isEnd, pageEnd, pageTold};
 use cores::Powers;
 use cores::Turns;
 use mapping::Lists;
@@ -89,14 +90,6 @@ fn held_from(lists: &Lists, i: u64) -> u64
     at
 }
 
-fn range_thing(setup: &Setup, owners: &Owners, origins: &Origins, first: u64) -> Thing
-    ensures { λ r. ⌜ r ≡ rangeThing (now (setup .entry)) (now (owners .entry)) (now (origins .entry)) first ⌝ }
-{
-    let w = setup::window_of(setup);
-    let end = range_end(owners, origins, w.pages, first);
-    Thing::Range { first, end }
-}
-
 fn held_thing(lists: &Lists, i: u64) -> Thing
     ensures { λ r. ⌜ r ≡ heldThing (now (lists .entry)) i ⌝ }
 {
@@ -110,40 +103,56 @@ fn held_thing(lists: &Lists, i: u64) -> Thing
     Thing::End
 }
 
-fn after_head(setup: &Setup) -> Thing
-    ensures { λ r. ⌜ r ≡ afterHead (now (setup .entry)) ⌝ }
-{
-    if setup::is_ready(setup) {
-        return Thing::Core(0);
-    }
-    Thing::NoWindow
-}
-
-fn after_core(setup: &Setup, owners: &Owners, origins: &Origins, core: u64) -> Thing
-    ensures { λ r. ⌜ r ≡ afterCore (now (setup .entry)) (now (owners .entry)) (now (origins .entry)) core ⌝ }
-{
-    let n = setup::cores_of(setup);
-    if n <= core {
-        return range_thing(setup, owners, origins, 0);
-    }
-    if core + 1 < n {
-        return Thing::Core(core + 1);
-    }
-    range_thing(setup, owners, origins, 0)
-}
-
-fn after_range(setup: &Setup, owners: &Owners, origins: &Origins, lists: &Lists, end: u64) -> Thing
-    ensures { λ r. ⌜ r ≡ afterRange (now (setup .entry)) (now (owners .entry)) (now (origins .entry)) (now (lists .entry)) end ⌝ }
+// The range from this page on; behind the last, the mappings.
+fn range_thing(
+    setup: &Setup,
+    owners: &Owners,
+    origins: &Origins,
+    lists: &Lists,
+    first: u64,
+) -> Thing
+    ensures { λ r. ⌜ r ≡ rangeThing (now (setup .entry)) (now (owners .entry)) (now (origins .entry)) (now (lists .entry)) first ⌝ }
 {
     let w = setup::window_of(setup);
-    if end < w.pages {
-        return range_thing(setup, owners, origins, end);
+    if first < w.pages {
+        let end = range_end(owners, origins, w.pages, first);
+        return Thing::Range { first, end };
     }
     held_thing(lists, 0)
 }
 
+// This core; behind the last, the ranges.
+fn core_thing(setup: &Setup, owners: &Owners, origins: &Origins, lists: &Lists, core: u64) -> Thing
+    ensures { λ r. ⌜ r ≡ coreThing (now (setup .entry)) (now (owners .entry)) (now (origins .entry)) (now (lists .entry)) core ⌝ }
+{
+    let n = setup::cores_of(setup);
+    if core < n {
+        return Thing::Core(core);
+    }
+    range_thing(setup, owners, origins, lists, 0)
+}
+
+fn after_head(setup: &Setup, owners: &Owners, origins: &Origins, lists: &Lists) -> Thing
+    ensures { λ r. ⌜ r ≡ afterHead (now (setup .entry)) (now (owners .entry)) (now (origins .entry)) (now (lists .entry)) ⌝ }
+{
+    if setup::is_ready(setup) {
+        return core_thing(setup, owners, origins, lists, 0);
+    }
+    Thing::NoWindow
+}
+
+fn after_core(setup: &Setup, owners: &Owners, origins: &Origins, lists: &Lists, core: u64) -> Thing
+    ensures { λ r. ⌜ r ≡ coreThing (now (setup .entry)) (now (owners .entry)) (now (origins .entry)) (now (lists .entry)) (core + 1) ⌝ }
+{
+    let n = setup::cores_of(setup);
+    if n <= core {
+        return range_thing(setup, owners, origins, lists, 0);
+    }
+    core_thing(setup, owners, origins, lists, core + 1)
+}
+
 fn after_held(lists: &Lists, i: u64) -> Thing
-    ensures { λ r. ⌜ r ≡ afterHeld (now (lists .entry)) i ⌝ }
+    ensures { λ r. ⌜ r ≡ heldThing (now (lists .entry)) (i + 1) ⌝ }
 {
     if i < PLACES {
         return held_thing(lists, i + 1);
@@ -156,10 +165,10 @@ pub fn next(thing: Thing, setup: &Setup, owners: &Owners, origins: &Origins, lis
     ensures { λ r. ⌜ r ≡ next (now (setup .entry)) (now (owners .entry)) (now (origins .entry)) (now (lists .entry)) thing ⌝ }
 {
     match thing {
-        Thing::Head => after_head(setup),
+        Thing::Head => after_head(setup, owners, origins, lists),
         Thing::NoWindow => Thing::End,
-        Thing::Core(core) => after_core(setup, owners, origins, core),
-        Thing::Range { first, end } => after_range(setup, owners, origins, lists, end),
+        Thing::Core(core) => after_core(setup, owners, origins, lists, core),
+        Thing::Range { first, end } => range_thing(setup, owners, origins, lists, end),
         Thing::Held(i) => after_held(lists, i),
         Thing::NoMappings => Thing::End,
         Thing::End => Thing::End,

@@ -7,8 +7,8 @@ use native.Mathlib.Numerals.{add-one}
 use native.Mathlib.Omega.{arith}
 use lib.Dec.{ltb, eqb}
 use lib.ListN.{length, set, getD, List·getD-eq-default, length-append}
-use borrow.Author.Tests.{lt-ltb, le-ltb, eqb-true, eqb-false}
-use Rattle.rules.specs.Choice.{pick, picked, passed, chosen, either}
+use borrow.Author.Tests.{lt-ltb, le-ltb, le-leb, lt-leb, ltb-true, eqb-true, eqb-false}
+use Rattle.rules.specs.Choice.{pick, picked, passed, pick-yes, chosen, either}
 use Rattle.tools.specs.Laid.{laid, put, put-fits}
 use Rattle.hex.specs.Signs.{signs}
 use Rattle.hex_write.specs.Put.{Laid, was-put, put-then}
@@ -17,7 +17,7 @@ use Rattle.pages.specs.declared.Window.{Window}
 use Rattle.mapping.specs.Lists.{held}
 use Rattle.mapping.specs.Mapping.{meetsRun}
 use Rattle.writing.specs.Put.{blanks, length-blanks}
-use Rattle.phrases.specs.Text.{hexText, hex-few}
+use Rattle.phrases.specs.Text.{hexText, hex-few, longest, told}
 use Rattle.standing.specs.Standing.{addressOf, isWide}
 
 -- ---- a page
@@ -140,29 +140,72 @@ module _ (w : Window) where
 
 pub ruleset columns = (column-wide, column-plain)
 
-module _ (w : Window) (o o₁ o₂ : List ℕ) (a b n x c k : ℕ) (fits : 96 ≤ length o) (few : n ≤ 64) (e : (a, o₁) ≡ put o 0 (hexText x)) (col : c ≡ rowColumn w) (gap : k ≡ c - a) (f : (b, o₂) ≡ put o₁ a (blanks k)) where
-  one : Laid o o₁ 0 a (length (hexText x)) (hexText x)
-  one = was-put o o₁ 0 a (length (hexText x)) (hexText x) refl (omega (arith, hex-few x)) e
+module _ (o o₁ : List ℕ) (at a x : ℕ) (fits : at + 96 ≤ length o) (e : (a, o₁) ≡ put o at (hexText x)) where
+  one : Laid o o₁ at a (length (hexText x)) (hexText x)
+  one = was-put o o₁ at a (length (hexText x)) (hexText x) refl (omega (arith, hex-few x)) e
+
+  pub behind : at ≤ a
+  behind = omega (arith, one .place)
+
+module _ (w : Window) (o o₁ o₂ : List ℕ) (at a b n x c k : ℕ) (fits : at + 96 ≤ length o) (few : n ≤ 64) (e : (a, o₁) ≡ put o at (hexText x)) (col : c ≡ rowColumn w) (gap : k ≡ c - (a - at)) (f : (b, o₂) ≡ put o₁ a (blanks k)) where
+  first : Laid o o₁ at a (length (hexText x)) (hexText x)
+  first = one o o₁ at a x fits e
 
   narrow : length (hexText x) + length (blanks k) ≤ 18
-  narrow = omega (arith, length-blanks k .1, column-few w, hex-few x, one .place)
+  narrow = omega (arith, length-blanks k .1, column-few w, hex-few x, first .place)
 
   two : Laid o₁ o₂ a b (length (blanks k)) (blanks k)
-  two = was-put o₁ o₂ a b (length (blanks k)) (blanks k) refl (omega (arith, hex-few x, one .place, one .size, narrow)) f
+  two = was-put o₁ o₂ a b (length (blanks k)) (blanks k) refl (omega (arith, hex-few x, first .place, first .size, narrow)) f
 
   pub row-room : b + n ≤ length o₂
-  row-room = omega (arith, hex-few x, one .place, one .size, two .place, two .size, narrow)
+  row-room = omega (arith, hex-few x, first .place, first .size, two .place, two .size, narrow)
 
-  row-put : (v o₃ p : List ℕ) (d r : ℕ) → length v ≡ n → (d, o₃) ≡ put o₂ b v → (r, p) ≡ put o₃ d (10 ∷ []) → (r, p) ≡ put o 0 (hexText x ++ (blanks k ++ (v ++ 10 ∷ [])))
+  row-put : (v o₃ p : List ℕ) (d r : ℕ) → length v ≡ n → (d, o₃) ≡ put o₂ b v → (r, p) ≡ put o₃ d (10 ∷ []) → (r, p) ≡ put o at (hexText x ++ (blanks k ++ (v ++ 10 ∷ [])))
   row-put v o₃ p d r h g q =
-      put-then o o₁ p 0 a r _ (length (blanks k) + (n + 1)) (hexText x) (blanks k ++ (v ++ 10 ∷ [])) refl
+      put-then o o₁ p at a r _ (length (blanks k) + (n + 1)) (hexText x) (blanks k ++ (v ++ 10 ∷ [])) refl
       (length-append (blanks k) (v ++ 10 ∷ []) ∙ omega (arith, length-append v (10 ∷ []))) (omega (arith, hex-few x, narrow)) e
-      (put-then o₁ o₂ p a b r _ (n + 1) (blanks k) (v ++ 10 ∷ []) refl (length-append v (10 ∷ []) ∙ omega arith) (omega (arith, hex-few x, one .place, one .size, narrow)) f
-      (put-then o₂ o₃ p b d r n 1 v (10 ∷ []) h refl (omega (arith, hex-few x, one .place, one .size, two .place, two .size, narrow)) g q))
+      (put-then o₁ o₂ p a b r _ (n + 1) (blanks k) (v ++ 10 ∷ []) refl (length-append v (10 ∷ []) ∙ omega arith) (omega (arith, hex-few x, first .place, first .size, narrow)) f
+      (put-then o₂ o₃ p b d r n 1 v (10 ∷ []) h refl (omega (arith, hex-few x, first .place, first .size, two .place, two .size, narrow)) g q))
 
   pub row-so : (o′ l : List ℕ) (page : ℕ) (o₃ p : List ℕ) (d r : ℕ) → n ≡ rowLength (w .pages) page → x ≡ addressOf w page
-      → (d, o₃) ≡ put o₂ b (drawn w o′ l page n) → (r, p) ≡ put o₃ d (10 ∷ []) → (r, p) ≡ put o 0 (rowText w o′ l page)
+      → (d, o₃) ≡ put o₂ b (drawn w o′ l page n) → (r, p) ≡ put o₃ d (10 ∷ []) → (r, p) ≡ put o at (rowText w o′ l page)
   unfolding rowText
   row-so o′ l page o₃ p d r is at g q =
-      let z : k ≡ rowColumn w - length (hexText x) = omega (arith, one .place) in
+      let z : k ≡ rowColumn w - length (hexText x) = omega (arith, first .place) in
       rw (← is, ← at, ← z) (row-put (drawn w o′ l page n) o₃ p d r (length-drawn w o′ l n page) g q)
+
+-- ---- the row, put or not
+row-few : (pages page : ℕ) → rowLength pages page ≤ 64
+unfolding rowLength
+row-few pages page = chosen (λ (k : ℕ). k ≤ 64) (ltb (pages - page) rowPages) _ _ (λ y. omega (arith, ltb-true (pages - page) rowPages y)) (λ y. omega arith)
+
+module _ (w : Window) (o l : List ℕ) (page : ℕ) where
+  sizes : (0 < length (rowText w o l page)) × (length (rowText w o l page) ≤ longest)
+  unfolding rowText
+  sizes =
+      let x = addressOf w page in
+      let k = rowColumn w - length (hexText x) in
+      let v = drawn w o l page (rowLength (w .pages) page) in
+      let n = length-drawn w o l (rowLength (w .pages) page) page in
+      let c = length-append v (10 ∷ []) in
+      let b = length-append (blanks k) (v ++ 10 ∷ []) in
+      let a = length-append (hexText x) (blanks k ++ (v ++ 10 ∷ [])) in
+      (omega arith, omega (arith, hex-few x, length-blanks k .0, row-few (w .pages) page))
+
+  pub text-some : 0 < length (rowText w o l page)
+  text-some = sizes .0
+
+  pub text-short : length (rowText w o l page) ≤ longest
+  text-short = sizes .1
+
+  module _ (out p : List ℕ) (at r : ℕ) where
+    pub row-told : at + longest ≤ length out → (r, p) ≡ put out at (rowText w o l page) → (r, p) ≡ told out at (rowText w o l page)
+    unfolding told put
+    row-told h e =
+        let text = rowText w o l page in
+        let z : _≡_ {A = ℕ × List ℕ} (r, p) (at + length text, laid out at text) = e ∙ pick-yes _ _ _ (le-leb (at + length text) (length out) (omega (arith, text-short))) in
+        picked _ _ _ _ (le-leb (at + longest) (length out) h) z
+
+  pub row-not : (out : List ℕ) (at : ℕ) → length out < at + longest → (at, out) ≡ told out at (rowText w o l page)
+  unfolding told
+  row-not out at h = passed _ _ _ _ (lt-leb (at + longest) (length out) h) refl

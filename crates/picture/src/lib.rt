@@ -3,10 +3,12 @@ ghost use mathlib.Core.Path.{_≡_};
 ghost use Prim.Native.Nat.{_+_, _-_, _≤_};
 ghost use lib.ListN.{length};
 ghost use Rattle.tools.specs.Laid.{put};
+ghost use Rattle.phrases.specs.Text.{told};
 ghost use Rattle.picture.specs.Picture.{letterOf, letterAt, drawn, rowLength, rowColumn, rowText};
 use mapping::Lists;
 use pages::Owners;
 use pages::Window;
+use phrases::LONGEST;
 use rules::NORMAL;
 use rules::REALM;
 use rules::ROOT;
@@ -14,9 +16,6 @@ use rules::SECURE;
 
 // How many pages a row has.
 pub const ROW: u64 = 64;
-
-// Room for a row.
-pub type Row = [u8; 96];
 
 // The letter of an owner.
 fn letter(owner: u64, mapped: bool) -> u8
@@ -109,26 +108,40 @@ fn row_column(w: Window) -> usize
 // A row: its first address, and its letters.
 fn put_letters(
     out: &mut [u8],
+    at: usize,
     w: Window,
     owners: &Owners,
     lists: &Lists,
     first: u64,
     n: usize,
 ) -> usize
-    requires { ⌜ (96 ≤ length (now out)) × (n ≡ rowLength (w .pages) first) × (n ≤ 64) × (first + n ≤ 0xFFFFFFFFFFFFFFFF) ⌝ }
-    ensures { λ r. ⌜ (r, now (out .exit)) ≡ put (now (out .entry)) 0 (rowText w (now (owners .entry)) (now (lists .entry)) first) ⌝ }
+    requires { ⌜ (at + 96 ≤ length (now out)) × (n ≡ rowLength (w .pages) first) × (n ≤ 64) × (first + n ≤ 0xFFFFFFFFFFFFFFFF) ⌝ }
+    ensures { λ r. ⌜ (r, now (out .exit)) ≡ put (now (out .entry)) at (rowText w (now (owners .entry)) (now (lists .entry)) first) ⌝ }
 {
-    let a = phrases::put_hex(out, 0, standing::address_of(w, first));
-    let b = writing::put_blanks(out, a, left_of(row_column(w), a));
+    let a = phrases::put_hex(out, at, standing::address_of(w, first));
+    let b = writing::put_blanks(out, a, left_of(row_column(w), a - at));
     let c = draw(out, b, w, owners, lists, first, n);
     hex_write::put_end(out, c)
 }
 
-// The row from this page on: how many bytes it has.
-pub fn put_row(out: &mut Row, w: Window, owners: &Owners, lists: &Lists, first: u64) -> usize
-    ensures { λ r. ⌜ (r, now (out .exit)) ≡ put (now (out .entry)) 0 (rowText w (now (owners .entry)) (now (lists .entry)) first) ⌝ }
+// The row from this page on, with its newline. It returns the place behind it; where there is no room for the longest line,
+// nothing is put and the place stays.
+pub fn put_row(
+    out: &mut [u8],
+    at: usize,
+    w: Window,
+    owners: &Owners,
+    lists: &Lists,
+    first: u64,
+) -> usize
+    ensures { λ r. ⌜ (r, now (out .exit)) ≡ told (now (out .entry)) at (rowText w (now (owners .entry)) (now (lists .entry)) first) ⌝ }
 {
+    if out.len() < LONGEST {
+        return at;
+    }
+    if out.len() - LONGEST < at {
+        return at;
+    }
     let n = row_length(w.pages, first);
-    let space: &mut [u8] = out;
-    put_letters(space, w, owners, lists, first, n)
+    put_letters(out, at, w, owners, lists, first, n)
 }

@@ -64,7 +64,7 @@ originSaid s line = pick (eqb line 0) (s ▹ Word w.unnamed) (s ▹ Word w.line 
 unfoldable pub placeSaid : Window → ℕ → ℕ → Sentence
 placeSaid v first end = blank ▹ Hex (addressOf v first) ▹ Word w.upTo ▹ Hex (addressOf v end - 1)
 
--- how many pages, and whose: behind two addresses of eight digits, or of sixteen
+-- how many pages, and whose: behind two addresses of eight digits, or of up to sixteen
 unfoldable pub ownerSaid : Sentence → Bool → ℕ → ℕ → Sentence
 ownerSaid s wide count owner =
     s ▹ Column (pick wide 38 22) ▹ Right count ▹ Word (pagesWord count) ▹ Column (pick wide 50 34) ▹ Word owner ▹ Column (pick wide 58 42)

@@ -1,4 +1,3 @@
-pub mod Ranges
 pub mod Told
 pub mod History
 pub mod Theorems

@@ -1,107 +1,108 @@
--- Each core, each page and each mapping is told in its turn.
-use mathlib.Core.Path.{_≡_, sym}
+-- Each core, each page and each mapping has its line in the end.
+use mathlib.Core.Path.{_≡_, refl, sym, ap, _∙_}
 use mathlib.Core.Bool.{true}
-use mathlib.Core.List.{List}
-use Prim.Native.Nat.{ℕ, zero, suc, _+_, _-_, _*_, _/_, _%_, _≤_, _<_}
-use native.Mathlib.Numerals.{add-one}
+use mathlib.Core.List.{List, _∷_, _++_, List·Memᴰ, List·Memᴰ·head, List·Memᴰ·tail, Memᴰ·cast, Memᴰ·append-left, Memᴰ·append-right}
+use mathlib.Core.Logic.{⊎-elim}
+use Prim.Native.Nat.{ℕ, zero, suc, _+_, _*_, _/_, _%_, _≤_, _<_}
+use native.Mathlib.Nat.{eq-or-lt-of-le}
 use native.Mathlib.Omega.{arith}
 use lib.Dec.{ltb}
-use borrow.Author.Tests.{lt-ltb, le-ltb, ltb-true, ltb-false, ne-eqb}
-use Rattle.rules.specs.Choice.{either, pick-yes, pick-no, not-true, yes-or-no}
+use borrow.Author.Tests.{lt-ltb, ltb-true, ltb-false, ne-eqb}
+use Rattle.rules.specs.Choice.{either, chosen, not-true, yes-or-no}
 use Rattle.rules.specs.Sizes.{worlds, mostMappings}
-use Rattle.tools.specs.Search.{first-is}
+use Rattle.tools.specs.Search.{any, any-by}
 use Rattle.mapping.specs.Lists.{place}
 use Rattle.setup.specs.Table.{ready, window, cores}
-use Rattle.inventory.specs.Inventory.{places, rangeEnd, isHeld, heldFrom, rangeThing, heldThing, afterHead, afterCore, afterRange, afterHeld, next}
-use Rattle.inventory.specs.declared.Thing.{Thing}
-use Rattle.inventory.specs.declared.Thing.the-variants.{Head, Core, Range, Held}
-use Rattle.standings.specs.Through.{Reached, reached-head, reached-next}
-use Rattle.standing_theorems.specs.Ranges.{OneRange, range-is}
+use Rattle.origins.specs.Lines.{linesIn}
+use Rattle.phrases.specs.Text.{lineText}
+use Rattle.standing.specs.Standing.{headSaid, mappingSaid}
+use Rattle.inventory.specs.Inventory.{places, rangeEnd, isHeld, coreTold, rangeTold, heldTold}
+use Rattle.views.specs.declared.View.the-variants.{All}
+use Rattle.endings.specs.Ending.{coreLines, rangeLines, placeLines, mappingLines, endLines}
+use Rattle.endings.specs.Ranges.{OneRange, range-is}
 
-module _ (s o t l : List ℕ) (set-up : ready s ≡ true) where
-  abbrev Told : Thing → Type 0
-  Told x = Reached s o t l x
+module _ (n s o t p u l : List ℕ) (set-up : ready s ≡ true) where
+  -- one of the lines of the end
+  abbrev pub IsLine : List ℕ → Type 0
+  IsLine line = List·Memᴰ line (endLines n s o t p u l All)
 
-  then : (x y : Thing) → Told x → y ≡ next s o t l x → Told y
-  then = reached-next s o t l
+  behind-head : (line : List ℕ) → List·Memᴰ line (coreLines p u 0 (cores s) ++ (rangeLines s o t 0 (window s .pages) ++ mappingLines l)) → IsLine line
+  unfolding endLines
+  behind-head line m =
+      chosen (λ (ls : List (List ℕ)). List·Memᴰ line (lineText (headSaid (linesIn n)) ∷ ls)) (ready s) _ _ (λ y. List·Memᴰ·tail m) (λ f. absurd (yes-or-no (ready s) set-up f))
 
-  -- ---- cores, of which there is at least one
-  first-core : Told (Core 0)
-  unfolding afterHead
-  first-core = then Head (Core 0) (reached-head s o t l) (sym (pick-yes _ _ _ set-up))
+  -- ---- cores
+  core-in : (count first core : ℕ) → first ≤ core → core < first + count → List·Memᴰ (lineText (coreTold p u core)) (coreLines p u first count)
+  unfolding coreLines
+  core-in zero first core a b = absurd (omega arith)
+  core-in (suc count) first core a b =
+      ⊎-elim (λ (z : first ≡ core). List·Memᴰ·head (ap (λ (k : ℕ). lineText (coreTold p u k)) (sym z)))
+      (λ (z : first < core). List·Memᴰ·tail (core-in count (suc first) core (omega arith) (omega arith)))
+      (eq-or-lt-of-le a)
 
-  pub core-told : (core : ℕ) → core < cores s → Told (Core core)
-  unfolding afterCore
-  core-told zero h = first-core
-  core-told (suc core) h =
-      let z : core + 1 ≡ suc core = add-one core in
-      then (Core core) (Core (suc core)) (core-told core (omega arith)) (sym (rw z (pick-yes _ _ _ (lt-ltb (suc core) (cores s) h))))
+  pub core-told : (core : ℕ) → core < cores s → IsLine (lineText (coreTold p u core))
+  core-told core h = behind-head _ (Memᴰ·append-left _ (core-in (cores s) 0 core (omega arith) (omega arith)))
 
-  module _ (some : 0 < cores s) where
-    last-core : (n : ℕ) → n + 1 ≡ cores s → Told (rangeThing s o t 0)
-    unfolding afterCore
-    last-core n e = then (Core n) (rangeThing s o t 0) (core-told n (omega arith)) (sym (pick-no _ _ _ (le-ltb (n + 1) (cores s) (omega arith))))
+  -- ---- pages
+  abbrev pages : ℕ
+  pages = window s .pages
 
-    ranges-begin : Told (rangeThing s o t 0)
-    ranges-begin = last-core (cores s - 1) (omega arith)
+  -- the range that holds a page, and its line among some lines
+  pub record Covered (lines : List (List ℕ)) (q : ℕ) : Type 0 where
+    pub page : ℕ
+    pub end : ℕ
+    pub told : List·Memᴰ (lineText (rangeTold s o t page end)) lines
+    pub low : page ≤ q
+    pub high : q < end
+    pub one : OneRange o t pages page end
 
-    -- ---- pages
-    abbrev pages : ℕ
-    pages = window s .pages
+  covered-by : (ls ms : List (List ℕ)) (q : ℕ) → ((line : List ℕ) → List·Memᴰ line ls → List·Memᴰ line ms) → Covered ls q → Covered ms q
+  covered-by ls ms q f c = record { page = c .page; end = c .end; told = f _ (c .told); low = c .low; high = c .high; one = c .one }
 
-    -- the range that holds a page
-    pub record Covered (p : ℕ) : Type 0 where
-      pub page : ℕ
-      pub end : ℕ
-      pub told : Told (Range page end)
-      pub low : page ≤ p
-      pub high : p < end
-      pub one : OneRange o t pages page end
+  covered-from : (count q page : ℕ) → q < page + count → page ≤ q → q < pages → Covered (rangeLines s o t page count) q
+  unfolding rangeLines
+  covered-from zero q page f g h = absurd (omega arith)
+  covered-from (suc count) q page f g h =
+      let end = rangeEnd o t pages page in
+      let r = range-is o t pages page (omega arith) in
+      chosen (λ (ls : List (List ℕ)). Covered ls q) (ltb page pages) _ _
+      (λ y.
+      either (ltb q end) (λ e. record { page = page; end = end; told = List·Memᴰ·head refl; low = g; high = ltb-true q end e; one = r })
+      (λ e. covered-by (rangeLines s o t end count) _ q (λ line i. List·Memᴰ·tail i) (covered-from count q end (omega (arith, r .some)) (ltb-false q end e) h)))
+      (λ e. absurd (yes-or-no (ltb page pages) (lt-ltb page pages (omega arith)) e))
 
-    covered-from : (fuel p page : ℕ) → p < page + fuel → page ≤ p → p < pages → Told (rangeThing s o t page) → Covered p
-    unfolding rangeThing afterRange
-    covered-from zero p page f g h told = absurd (omega arith)
-    covered-from (suc fuel) p page f g h told =
-        let end = rangeEnd o t pages page in
-        let r = range-is o t pages page (omega arith) in
-        either (ltb p end) (λ y. record { page = page; end = end; told = told; low = g; high = ltb-true p end y; one = r })
-        (λ n.
-        let k = ltb-false p end n in
-        covered-from fuel p end (omega (arith, r .some)) k h
-        (then (Range page end) (rangeThing s o t end) told (sym (pick-yes _ _ _ (lt-ltb end pages (omega arith))))))
+  pub page-covered : (q : ℕ) → q < pages → Covered (endLines n s o t p u l All) q
+  page-covered q h =
+      covered-by (rangeLines s o t 0 pages) _ q (λ line i. behind-head line (Memᴰ·append-right (coreLines p u 0 (cores s)) (Memᴰ·append-left _ i)))
+      (covered-from pages q 0 (omega arith) (omega arith) h)
 
-    pub page-covered : (p : ℕ) → p < pages → Covered p
-    page-covered p h = covered-from (p + 1) p 0 (omega arith) (omega arith) h ranges-begin
+  -- ---- mappings
+  held-in : (count first i : ℕ) → first ≤ i → i < first + count → isHeld l i ≡ true → List·Memᴰ (lineText (heldTold l i)) (placeLines l first count)
+  unfolding placeLines
+  held-in zero first i a b e = absurd (omega arith)
+  held-in (suc count) first i a b e =
+      ⊎-elim
+      (λ (z : first ≡ i).
+      chosen (λ (ls : List (List ℕ)). List·Memᴰ (lineText (heldTold l i)) ls) (isHeld l first) _ _
+      (λ y. List·Memᴰ·head (ap (λ (k : ℕ). lineText (heldTold l k)) (sym z))) (λ f. absurd (yes-or-no (isHeld l first) (ap (isHeld l) z ∙ e) f)))
+      (λ (z : first < i).
+      let rest = held-in count (suc first) i (omega arith) (omega arith) e in
+      chosen (λ (ls : List (List ℕ)). List·Memᴰ (lineText (heldTold l i)) ls) (isHeld l first) _ _ (λ y. List·Memᴰ·tail rest) (λ m. rest))
+      (eq-or-lt-of-le a)
 
-    -- ---- mappings
-    last-range : (fuel page : ℕ) → pages ≤ page + fuel → page < pages → Told (rangeThing s o t page) → Told (heldThing l 0)
-    unfolding rangeThing afterRange
-    last-range zero page f h told = absurd (omega arith)
-    last-range (suc fuel) page f h told =
-        let end = rangeEnd o t pages page in
-        let r = range-is o t pages page h in
-        either (ltb end pages)
-        (λ y. last-range fuel end (omega (arith, r .some)) (ltb-true end pages y) (then (Range page end) (rangeThing s o t end) told (sym (pick-yes _ _ _ y))))
-        (λ n. then (Range page end) (heldThing l 0) told (sym (pick-no _ _ _ n)))
+  held-told : (i : ℕ) → i < places → isHeld l i ≡ true → IsLine (lineText (heldTold l i))
+  unfolding mappingLines
+  held-told i h e =
+      behind-head _ (Memᴰ·append-right (coreLines p u 0 (cores s)) (Memᴰ·append-right (rangeLines s o t 0 pages)
+      (chosen (λ (ls : List (List ℕ)). List·Memᴰ (lineText (heldTold l i)) ls) (any (isHeld l) 0 places) _ _ (λ y. held-in places 0 i (omega arith) (omega arith) e)
+      (λ f. absurd (yes-or-no (any (isHeld l) 0 places) (any-by (isHeld l) 0 places i e (omega arith) (omega arith)) f)))))
 
-    held-reached : (fuel i from : ℕ) → i < from + fuel → from ≤ i → i < places → isHeld l i ≡ true → Told (heldThing l from) → Told (Held i)
-    unfolding heldThing heldFrom afterHeld
-    held-reached zero i from f g h e told = absurd (omega arith)
-    held-reached (suc fuel) i from f g h e told =
-        let at = heldFrom l from in
-        let r = first-is (isHeld l) from (places - from) in
-        let low : at ≤ i = either (ltb i at) (λ y. absurd (yes-or-no _ e (r .before i g (ltb-true i at y)))) (λ n. ltb-false i at n) in
-        let here : Told (Held at) = rw (pick-yes (ltb at places) (Held at) _ (lt-ltb at places (omega arith))) at told in
-        either (ltb at i)
-        (λ y. held-reached fuel i (at + 1) (omega (arith, r .low)) (omega (arith, ltb-true at i y)) h e
-        (then (Held at) (heldThing l (at + 1)) here (sym (pick-yes _ _ _ (lt-ltb at places (omega arith))))))
-        (λ n. let z : at ≡ i = omega (arith, ltb-false at i n) in rw z at here)
-
-    pub mapping-told : 0 < pages → (world j : ℕ) → world < worlds → j < mostMappings → (place l world j .size ≡ 0 → ⊥) → Told (Held (world * mostMappings + j))
-    unfolding isHeld
-    mapping-told h world j a b n =
-        let i : ℕ = world * mostMappings + j in
-        let x : i / mostMappings ≡ world = omega arith in
-        let y : i % mostMappings ≡ j = omega arith in
-        let e : isHeld l i ≡ true = rw (x, y) (not-true _ (ne-eqb (place l world j .size) 0 n)) in
-        held-reached (i + 1) i 0 (omega arith) (omega arith) (omega arith) e (last-range pages 0 (omega arith) h ranges-begin)
+  pub mapping-told : (world j : ℕ) → world < worlds → j < mostMappings → (place l world j .size ≡ 0 → ⊥) → IsLine (lineText (mappingSaid world (place l world j)))
+  unfolding isHeld heldTold
+  mapping-told world j a b m =
+      let i : ℕ = world * mostMappings + j in
+      let x : i / mostMappings ≡ world = omega arith in
+      let y : i % mostMappings ≡ j = omega arith in
+      let e : isHeld l i ≡ true = rw (x, y) (not-true _ (ne-eqb (place l world j .size) 0 m)) in
+      let z : heldTold l i ≡ mappingSaid world (place l world j) = rw (x, y) in
+      Memᴰ·cast (ap lineText (sym z)) (held-told i (omega arith) e)

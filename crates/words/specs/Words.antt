@@ -469,7 +469,7 @@ noWindow = 108
 abbrev pub outside : ℕ
 outside = 109
 
--- ---- under the picture
+-- ---- above the picture: what its letters mean
 abbrev pub legend : ℕ
 legend = 110
 

@@ -1,8 +1,8 @@
 -- In each arm the thing is known.
 use borrow.Author.Needs.{needs}
-use Rattle.inventory.specs.Inventory.{nexts}
 use Rattle.inventory.proofs.next.Statement.{statement}
 use Rattle.inventory.proofs.next.Tie as tie
+use Rattle.inventory.specs.Inventory.{nexts}
 
 enum-told : tie.Need-enum-told
 enum-told c = search needs
@@ -22,8 +22,8 @@ after-core-requires c κs = search needs
 enum-known-thing-2 : tie.Need-enum-known-thing-2
 enum-known-thing-2 c = search needs
 
-after-range-requires : tie.Need-after-range-requires
-after-range-requires c κs = search needs
+range-thing-requires : tie.Need-range-thing-requires
+range-thing-requires c κs = search needs
 
 enum-known-thing-3 : tie.Need-enum-known-thing-3
 enum-known-thing-3 c = search needs
@@ -68,7 +68,7 @@ next-spec =
     enum-known-thing
     after-core-requires
     enum-known-thing-2
-    after-range-requires
+    range-thing-requires
     enum-known-thing-3
     after-held-requires
     enum-told-3

@@ -1,8 +1,8 @@
 -- Each part stands behind those before it, and there is room for all.
 use borrow.Author.Needs.{needs}
-use Rattle.picture.specs.Picture.{row-room, row-so}
 use Rattle.picture.proofs.put_letters.Statement.{statement}
 use Rattle.picture.proofs.put_letters.Tie as tie
+use Rattle.picture.specs.Picture.{behind, row-room, row-so}
 
 address-of-requires : tie.Need-address-of-requires
 address-of-requires c κs = search needs
@@ -12,6 +12,9 @@ put-hex-requires c κs = search needs
 
 row-column-requires : tie.Need-row-column-requires
 row-column-requires c κs = search needs
+
+sub-left-of : tie.Need-sub-left-of
+sub-left-of c = search (behind, needs)
 
 left-of-requires : tie.Need-left-of-requires
 left-of-requires c κs = search needs
@@ -38,6 +41,7 @@ put-letters-spec =
     address-of-requires
     put-hex-requires
     row-column-requires
+    sub-left-of
     left-of-requires
     put-blanks-requires
     draw-requires

@@ -1,50 +1,58 @@
--- In each arm the view is known.
+-- Each pass writes a chunk, and behind what was written comes what is left.
 use borrow.Author.Needs.{needs}
-use Rattle.standings.specs.Through.{told-all, told-page, told-map}
 use Rattle.standings.proofs.tell.Statement.{statement}
 use Rattle.standings.proofs.tell.Tie as tie
+use mathlib.Core.Path.{refl}
+use lib.ListN.{length}
+use Rattle.rules.specs.Choice.{yes-or-no}
+use Rattle.endings.specs.Rest.{linesFrom}
+use Rattle.standings.specs.Written.{Telling, telling-first, telling-next, telling-fewer, telling-last}
 
-enum-told : tie.Need-enum-told
-enum-told c = search needs
+abbrev Inv-loop : tie.InvT-loop
+Inv-loop out₀ lines setup owners origins powers turns lists part₀ out part = Telling lines setup owners origins powers turns lists part₀ part
 
-tell-things-requires : tie.Need-tell-things-requires
-tell-things-requires c κs = search needs
+abbrev μ-loop : tie.MeasureT-loop
+μ-loop out₀ lines setup owners origins powers turns lists part₀ out part = length (linesFrom lines setup owners origins powers turns lists part)
 
-enum-known-view : tie.Need-enum-known-view
-enum-known-view c = search needs
+first-part-requires : tie.Need-first-part-requires Inv-loop μ-loop
+first-part-requires c κs = search needs
 
-page-said-requires : tie.Need-page-said-requires
-page-said-requires c κs = search needs
+loop-holds : tie.Need-loop-holds Inv-loop μ-loop
+loop-holds c = search (telling-first, needs)
 
-write-line-requires : tie.Need-write-line-requires
-write-line-requires c κs = search needs
+put-parts-requires : tie.Need-put-parts-requires Inv-loop μ-loop
+put-parts-requires c κs = search needs
 
-enum-told-2 : tie.Need-enum-told-2
-enum-told-2 c = search needs
+write-requires : tie.Need-write-requires Inv-loop μ-loop
+write-requires c κs = search needs
 
-tell-map-requires : tie.Need-tell-map-requires
-tell-map-requires c κs = search needs
+returns : tie.Need-returns Inv-loop μ-loop
+returns c y = absurd (yes-or-no _ y refl)
 
-returns : tie.Need-returns
-returns c = search (told-all, told-page, told-map, needs)
+is-over-requires : tie.Need-is-over-requires Inv-loop μ-loop
+is-over-requires c κs = search needs
 
-returns-2 : tie.Need-returns-2
-returns-2 c = search (told-all, told-page, told-map, needs)
+returns-2 : tie.Need-returns-2 Inv-loop μ-loop
+returns-2 c y = let written = c .before .before .before .write .ensures in search (telling-last, needs)
 
-returns-3 : tie.Need-returns-3
-returns-3 c = search (told-all, told-page, told-map, needs)
+loop-less : tie.Need-loop-less Inv-loop μ-loop
+loop-less c = search (telling-fewer, needs)
+
+loop-again : tie.Need-loop-again Inv-loop μ-loop
+loop-again c = search (telling-next, needs)
 
 pub tell-spec : {M : Type 1} → statement M
 tell-spec =
     tie.close
     (tie.spec
-    enum-told
-    tell-things-requires
-    enum-known-view
-    page-said-requires
-    write-line-requires
-    enum-told-2
-    tell-map-requires
+    Inv-loop
+    μ-loop
+    first-part-requires
+    loop-holds
+    put-parts-requires
+    write-requires
     returns
+    is-over-requires
     returns-2
-    returns-3)
+    loop-less
+    loop-again)

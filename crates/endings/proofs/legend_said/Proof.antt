@@ -1,8 +1,8 @@
 -- Each way out is a case of the definition.
 use borrow.Author.Needs.{needs}
-use Rattle.standings.specs.Through.{legend-yes, legend-no}
-use Rattle.standings.proofs.legend_said.Statement.{statement}
-use Rattle.standings.proofs.legend_said.Tie as tie
+use Rattle.endings.specs.Rest.{legend-yes, legend-no}
+use Rattle.endings.proofs.legend_said.Statement.{statement}
+use Rattle.endings.proofs.legend_said.Tie as tie
 
 is-ready-requires : tie.Need-is-ready-requires
 is-ready-requires c κs = search needs

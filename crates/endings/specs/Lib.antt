@@ -1,0 +1,5 @@
+pub mod Ending
+pub mod Rest
+pub mod Ranges
+pub mod Behind
+pub mod Filling
