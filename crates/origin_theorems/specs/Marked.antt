@@ -51,7 +51,7 @@ use Rattle.guarantees.specs.Owners.{moves-deed, Gives, moves, names, inside-or-
 use Rattle.origin_theorems.specs.Rows.{row-any, done-moves}
 
 -- ---- values
-status-zero : (why : Status) → statusByte why ≡ 0 → why ≡ Status.Accepted
+pub status-zero : (why : Status) → statusByte why ≡ 0 → why ≡ Status.Accepted
 status-zero Status.Accepted e = refl
 status-zero Status.NoHex e = absurd (omega arith)
 status-zero Status.Unknown e = absurd (omega arith)
@@ -59,7 +59,7 @@ status-zero Status.Misplaced e = absurd (omega arith)
 status-zero Status.OutOfRange e = absurd (omega arith)
 status-zero Status.Clash e = absurd (omega arith)
 
-done-is : (a : Answer) → isDone a ≡ true → a ≡ Answer.Done
+pub done-is : (a : Answer) → isDone a ≡ true → a ≡ Answer.Done
 done-is Answer.Version e = cc
 done-is Answer.PowerVersion e = cc
 done-is Answer.Done e = refl

@@ -28,7 +28,7 @@ use Rattle.judgements.specs.declared.Row.the-variants.{Is, NoTransfer}
 use Rattle.spans.specs.Spans.{anyRow}
 
 -- ---- the four identifiers
-by-key : (P : ℕ → Type 0) (k : ℕ) → P granuleToRealm → P granuleToNormal → P takePages → P givePages
+pub by-key : (P : ℕ → Type 0) (k : ℕ) → P granuleToRealm → P granuleToNormal → P takePages → P givePages
     → ((k ≡ granuleToRealm → ⊥) → (k ≡ granuleToNormal → ⊥) → (k ≡ takePages → ⊥) → (k ≡ givePages → ⊥) → P k) → P k
 by-key P k a b c d other =
     either (eqb k granuleToRealm) (λ y. rw (eqb-true k granuleToRealm y) a)
@@ -48,21 +48,21 @@ row-any a h k t =
     (λ n. chosen (λ (ls : List Listed). rowIn ls k ≡ Is t → anyRow a k ≡ Is t) (eqb h 1) _ _ (λ y. by-key (λ (k : ℕ). rowIn (transfers 1 a) k ≡ Is t → anyRow a k ≡ Is t) k no-row no-row (λ e. e) (λ e. e) (λ b c d f e. no-row (sym (rw (ne-eqb k takePages d, ne-eqb k givePages f)) ∙ e))) (λ m e. no-row e))
 
 -- ---- a handler that has no row for it does not do such a call
-abbrev NotDone : Judged → Type 0
+abbrev pub NotDone : Judged → Type 0
 NotDone j = j .answer ≡ Answer.Done → ⊥
 
-no-not : (r : Reason) → NotDone (denied r)
+pub no-not : (r : Reason) → NotDone (denied r)
 no-not r e = let z : _≡_ {A = ℕ} 0 1 = cc in omega arith
 
 some-row : {P : Type 0} {t : Transfer} {r : Row} → r ≡ Is t → r ≡ NoTransfer → P
 some-row e f = no-row (sym f ∙ e)
 
 module _ (s : HandlerSight) (a : Args) where
-  handed-not : (to : ℕ) → NotDone (handing to (s .caller))
+  pub handed-not : (to : ℕ) → NotDone (handing to (s .caller))
   unfolding handing
   handed-not to = sieved NotDone denied _ _ no-not (λ c e. let z : _≡_ {A = ℕ} 0 1 = cc in omega arith)
 
-  by-handlers : (h k : ℕ) → NotDone (architecture a k) → (h ≡ 1 → NotDone (board s a k)) → (h ≡ 2 → NotDone (standard (s .caller) (s .powers) (s .owners) a k)) → NotDone (trusted (s .caller) k)
+  pub by-handlers : (h k : ℕ) → NotDone (architecture a k) → (h ≡ 1 → NotDone (board s a k)) → (h ≡ 2 → NotDone (standard (s .caller) (s .powers) (s .owners) a k)) → NotDone (trusted (s .caller) k)
       → NotDone (byNumber s a k h)
   unfolding byNumber
   by-handlers h k zero one two three =

@@ -36,19 +36,19 @@ use Rattle.guarantees.specs.Owners.{Gives, moves, names}
 use Rattle.origin_theorems.specs.Rows.{row-any}
 use Rattle.origin_theorems.specs.Marked.{came-called, came-told, names-run}
 
-holds-inside : (first count page : ℕ) → first ≤ page → page < first + count → holds (Pages first count) (Page page) ≡ true
+pub holds-inside : (first count page : ℕ) → first ≤ page → page < first + count → holds (Pages first count) (Page page) ≡ true
 unfolding holds
 holds-inside first count page h l = both-true _ _ (le-leb first page h) (lt-ltb page (first + count) l)
 
 -- an address that is asked for and lies in the page of another
-over-is : (address start count x : ℕ) → x / pageSize ≡ address / pageSize → start ≤ x → x < start + count * pageSize → overPage address start count ≡ true
+pub over-is : (address start count x : ℕ) → x / pageSize ≡ address / pageSize → start ≤ x → x < start + count * pageSize → overPage address start count ≡ true
 unfolding overPage
 over-is address start count x e l h =
     let at : ℕ = address / pageSize * pageSize in
     both-true _ _ (lt-ltb 0 count (omega arith)) (both-true _ _ (lt-ltb start (at + pageSize) (omega arith)) (lt-ltb at (start + count * pageSize) (omega arith)))
 
 -- the page that holds an address
-page-in : (w : Window) (address page : ℕ) → pageOf w address ≡ Page page → InPage w address page
+pub page-in : (w : Window) (address page : ℕ) → pageOf w address ≡ Page page → InPage w address page
 unfolding pageOf
 page-in w address page =
     chosen (λ (p : Place). p ≡ Page page → InPage w address page) (holdsAddress w address) _ _
@@ -60,7 +60,7 @@ page-in w address page =
     (λ n e. let z : _≡_ {A = ℕ} 0 1 = cc in absurd (omega arith))
 
 -- two addresses of one page of an acceptable window
-one-page : (w : Window) → acceptable w ≡ true → (address x page : ℕ) → pageOf w address ≡ Page page → pageOf w x ≡ Page page → x / pageSize ≡ address / pageSize
+pub one-page : (w : Window) → acceptable w ≡ true → (address x page : ℕ) → pageOf w address ≡ Page page → pageOf w x ≡ Page page → x / pageSize ≡ address / pageSize
 one-page w ok address x page e f =
     let k = accepted w ok in
     let a = page-in w address page e in
