@@ -58,7 +58,7 @@ returns c y =
     (tables .before .before .fresh4 .ensures)
     (tables .before .fresh5 .ensures)
     (tables .fresh-lines .ensures)
-    (read .explain .ensures) (search needs) (c .tell .ensures) y
+    (read .explain .ensures) (said .if1 .taken) (c .tell .ensures) y
 
 returns-2 : tie.Need-returns-2
 returns-2 c = λ y. absurd (yes-or-no _ y refl)
