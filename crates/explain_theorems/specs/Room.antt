@@ -24,7 +24,7 @@ use Rattle.asking.specs.Forms.{forms, rowAt, isForm, form, register, valued, sl
 use Rattle.asking.specs.declared.Given.{Given}
 use Rattle.asking.specs.declared.Known.{Known}
 use Rattle.asking.specs.declared.Known.the-variants.{World, Handler, Attributes, Kind}
-use Rattle.telling.specs.Came.{turned, answered, cameSaid}
+use Rattle.outcome_words.specs.Came.{turned, answered, cameSaid}
 use Rattle.telling.specs.Telling.{opening, setupLine, siteAsked, entryAsked, nameAsked, onCore, speaker, arrivalSaid, noFrame, sentenceOf}
 
 -- it has at most so many pieces

@@ -27,7 +27,7 @@ use Rattle.phrases.specs.Sentence.{pieceOf, blank, _▹_}
 use Rattle.phrases.specs.Text.{indent, rightText, hexText, gapText, extended, upto, textOf}
 use Rattle.asking.specs.Names.{namedFrom, counted}
 use Rattle.asking.specs.Forms.{forms, keyAt, rowAt, isForm, form, register, valued, slot, slots, asked, doneWord}
-use Rattle.telling.specs.Came.{turned, answered}
+use Rattle.outcome_words.specs.Came.{turned, answered}
 use Rattle.telling.specs.Telling.{sentenceOf}
 
 -- texts as they are made, beside the texts that they have to be

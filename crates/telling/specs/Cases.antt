@@ -22,7 +22,7 @@ use Rattle.phrases.specs.Sentence.{pieceOf, _▹_}
 use Rattle.phrases.specs.Text.{indent, rightText, hexText, gapText, extended, upto, textOf, lineText}
 use Rattle.asking.specs.Names.{namedFrom, counted}
 use Rattle.asking.specs.Forms.{forms, keyAt, rowAt, isForm, form, register, valued, slot, slots, asked, doneWord}
-use Rattle.telling.specs.Came.{turned}
+use Rattle.outcome_words.specs.Came.{turned}
 use Rattle.telling.specs.Telling.{sentenceOf}
 
 abbrev line : ℕ → Frame → List ℕ → Came → ℕ → List ℕ

@@ -1,3 +1,2 @@
-pub mod Came
 pub mod Telling
 pub mod Cases

@@ -1,5 +1,5 @@
 -- The sentence of a line: its number, who speaks on which core, what is asked, and what came of it.
-use mathlib.Core.Path.{_≡_, refl}
+use mathlib.Core.Path.{_≡_}
 use mathlib.Core.Bool.{Bool}
 use mathlib.Core.List.{List}
 use Prim.Native.Nat.{ℕ}
@@ -17,7 +17,7 @@ use Rattle.phrases.specs.declared.Sentence.{Sentence}
 use Rattle.asking.specs.Names.{named, counted}
 use Rattle.asking.specs.Forms.{asked, doneWord}
 use Rattle.asking.specs.declared.Known.the-variants.{World, Handler, Kind}
-use Rattle.telling.specs.Came.{cameSaid, handed}
+use Rattle.outcome_words.specs.Came.{cameSaid, handed}
 
 -- the number of the line
 abbrev pub opening : ℕ → Sentence

@@ -1,8 +1,8 @@
 -- `turn` meets its promise, since its branches are those of the definition.
-use Rattle.telling.specs.Came.{answers}
+use Rattle.outcome_words.specs.Came.{answers}
 use borrow.Author.Needs.{needs}
-use Rattle.telling.proofs.turn.Statement.{statement}
-use Rattle.telling.proofs.turn.Tie as tie
+use Rattle.outcome_words.proofs.turn.Statement.{statement}
+use Rattle.outcome_words.proofs.turn.Tie as tie
 
 with-requires : tie.Need-with-requires
 with-requires c κs = search needs

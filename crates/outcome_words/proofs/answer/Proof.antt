@@ -1,8 +1,8 @@
 -- `answer` meets its promise, an answer at a time.
 use borrow.Author.Needs.{needs}
-use Rattle.telling.proofs.answer.Statement.{statement}
-use Rattle.telling.proofs.answer.Tie as tie
-use Rattle.telling.specs.Came.{answers}
+use Rattle.outcome_words.proofs.answer.Statement.{statement}
+use Rattle.outcome_words.proofs.answer.Tie as tie
+use Rattle.outcome_words.specs.Came.{answers}
 
 enum-told : tie.Need-enum-told
 enum-told c = search needs

@@ -1,8 +1,8 @@
 -- Each way out is a case of the definition.
-use Rattle.telling.specs.Came.{handings}
+use Rattle.outcome_words.specs.Came.{handings}
 use borrow.Author.Needs.{needs}
-use Rattle.telling.proofs.is_handed.Statement.{statement}
-use Rattle.telling.proofs.is_handed.Tie as tie
+use Rattle.outcome_words.proofs.is_handed.Statement.{statement}
+use Rattle.outcome_words.proofs.is_handed.Tie as tie
 
 enum-known-came : tie.Need-enum-known-came
 enum-known-came c = search needs

@@ -1,8 +1,8 @@
 -- In each arm the answer is known.
-use Rattle.telling.specs.Came.{refusal-speaks}
+use Rattle.outcome_words.specs.Came.{refusal-speaks}
 use borrow.Author.Needs.{needs}
-use Rattle.telling.proofs.is_silent.Statement.{statement}
-use Rattle.telling.proofs.is_silent.Tie as tie
+use Rattle.outcome_words.proofs.is_silent.Statement.{statement}
+use Rattle.outcome_words.proofs.is_silent.Tie as tie
 
 enum-told : tie.Need-enum-told
 enum-told c = search needs

@@ -1,8 +1,8 @@
 -- `outcome` meets its promise: a status by its words, and an accepted call by its answer.
 use borrow.Author.Needs.{needs}
-use Rattle.telling.proofs.outcome.Statement.{statement}
-use Rattle.telling.proofs.outcome.Tie as tie
-use Rattle.telling.specs.Came.{outcomes}
+use Rattle.outcome_words.proofs.outcome.Statement.{statement}
+use Rattle.outcome_words.proofs.outcome.Tie as tie
+use Rattle.outcome_words.specs.Came.{outcomes}
 
 with-requires : tie.Need-with-requires
 with-requires c κs = search needs
