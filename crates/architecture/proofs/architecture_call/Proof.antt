@@ -8,7 +8,6 @@ use Rattle.rules.specs.Tests.{contraries}
 grant-requires : tie.Need-grant-requires
 grant-requires c κs = search needs
 
--- src/lib.rt:58:36
 read-args-requires : tie.Need-read-args-requires
 read-args-requires c κs = search needs
 

@@ -5,28 +5,24 @@ use Rattle.board.proofs.board_call.Tie as tie
 use Rattle.judgements.specs.Judge.{board}
 use Rattle.rules.specs.Tests.{contraries}
 
--- src/lib.rt:106:49
 read-args-requires : tie.Need-read-args-requires
 read-args-requires c κs = search needs
 
 own-page-requires : tie.Need-own-page-requires
 own-page-requires c κs = search needs
 
--- src/lib.rt:107:57
 read-args-requires-2 : tie.Need-read-args-requires-2
 read-args-requires-2 c κs = search needs
 
 map-pages-requires : tie.Need-map-pages-requires
 map-pages-requires c κs = search needs
 
--- src/lib.rt:108:53
 read-args-requires-3 : tie.Need-read-args-requires-3
 read-args-requires-3 c κs = search needs
 
 unmap-pages-requires : tie.Need-unmap-pages-requires
 unmap-pages-requires c κs = search needs
 
--- src/lib.rt:109:53
 read-args-requires-4 : tie.Need-read-args-requires-4
 read-args-requires-4 c κs = search needs
 

@@ -19,14 +19,12 @@ returns-2 c = search table depth 20
 returns-3 : tie.Need-returns-3
 returns-3 c = search table depth 20
 
--- src/lib.rt:44:50
 read-args-requires : tie.Need-read-args-requires
 read-args-requires c κs = search needs
 
 row-requires-3 : tie.Need-row-requires-3
 row-requires-3 c κs = search needs
 
--- src/lib.rt:45:51
 read-args-requires-2 : tie.Need-read-args-requires-2
 read-args-requires-2 c κs = search needs
 

@@ -15,7 +15,6 @@ returns : tie.Need-returns
 unfolding transferring
 returns c = search moves depth 20
 
--- src/lib.rt:108:9
 read-args-requires : tie.Need-read-args-requires
 read-args-requires c κs = search needs
 

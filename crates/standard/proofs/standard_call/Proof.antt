@@ -11,35 +11,30 @@ power-version-requires c κs = search needs
 go-off-requires : tie.Need-go-off-requires
 go-off-requires c κs = search needs
 
--- src/lib.rt:57:60
 read-args-requires : tie.Need-read-args-requires
 read-args-requires c κs = search needs
 
 start-core-requires : tie.Need-start-core-requires
 start-core-requires c κs = search needs
 
--- src/lib.rt:58:65
 read-args-requires-2 : tie.Need-read-args-requires-2
 read-args-requires-2 c κs = search needs
 
 start-core-requires-2 : tie.Need-start-core-requires-2
 start-core-requires-2 c κs = search needs
 
--- src/lib.rt:59:52
 read-args-requires-3 : tie.Need-read-args-requires-3
 read-args-requires-3 c κs = search needs
 
 tell-state-requires : tie.Need-tell-state-requires
 tell-state-requires c κs = search needs
 
--- src/lib.rt:60:57
 read-args-requires-4 : tie.Need-read-args-requires-4
 read-args-requires-4 c κs = search needs
 
 tell-state-requires-2 : tie.Need-tell-state-requires-2
 tell-state-requires-2 c κs = search needs
 
--- src/lib.rt:61:52
 read-args-requires-5 : tie.Need-read-args-requires-5
 read-args-requires-5 c κs = search needs
 
