@@ -1,7 +1,6 @@
 // What a call asks, in words: a row of one table for each call, and the same sentence for every row.
 ghost use mathlib.Core.Path.{_≡_};
 ghost use Prim.Native.Nat.{_<_};
-ghost use lib.ListN.{getD};
 ghost use Rattle.asking.specs.Names.{namedFrom, named, counted};
 ghost use Rattle.asking.specs.Forms.{keyAt, rowAt, form, register, valued, slot, slots, asked, doneWord};
 use judgements::names;

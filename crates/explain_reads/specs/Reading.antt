@@ -1,13 +1,12 @@
 -- What a read calls for: the words of its complete lines, which are to be written, and what waits.
 use mathlib.Core.Path.{_≡_, refl, sym, ap, _∙_}
-use mathlib.Core.Bool.{Bool, true, false}
-use mathlib.Core.List.{List, [], _∷_, _++_, map}
-use Prim.Native.Nat.{ℕ, suc, _+_, _-_, _*_, _≤_, _<_}
+use mathlib.Core.List.{List, [], _∷_}
+use Prim.Native.Nat.{ℕ, suc, _+_, _-_, _≤_}
 use native.Mathlib.Omega.{arith}
 use lib.Dec.{eqb, leb}
-use lib.ListN.{length, take, length-take, length-append, length-map}
+use lib.ListN.{length, take, length-append, length-map}
 use lib.Seq.{length-take-le}
-use Rattle.rules.specs.Choice.{pick, pick-yes, pick-no, either, chosen}
+use Rattle.rules.specs.Choice.{chosen}
 use Rattle.tools.specs.Laid.{laid, put-take, length-laid}
 use Rattle.lines.specs.Lines.{linesOf, before, lineAt, part, nextOf}
 use Rattle.lines.specs.Meant.{meant}
@@ -18,7 +17,6 @@ use Rattle.lines.specs.Close.{closing, close-inside}
 use Rattle.parsing.specs.declared.Frame.{Frame}
 use Rattle.lines.specs.declared.Next.{Next}
 use Rattle.lines.specs.declared.Next.the-variants.{Line, Unfinished}
-use Rattle.frames.specs.Frames.{Machine}
 use Rattle.inputs.specs.Folds.{folded, left}
 use Rattle.inputs.specs.Feeding.{feeding, feeding-end, feeding-stop, feeding-line, feeds}
 use Rattle.inputs.specs.Waiting.{heard, front, sized, taken}

@@ -1,6 +1,6 @@
 -- No sentence of a line is full. A piece is left out only where a sentence is full, and it stays full then: so none is left out.
-use mathlib.Core.Path.{_≡_, refl, ap, _∙_}
-use mathlib.Core.Bool.{Bool, true, false, _&&_}
+use mathlib.Core.Path.{_≡_, refl}
+use mathlib.Core.Bool.{Bool, true, _&&_}
 use mathlib.Core.List.{List, [], _∷_}
 use Prim.Native.Nat.{ℕ, zero, suc, _+_, _≤_, _<_}
 use native.Mathlib.Omega.{arith}
@@ -17,15 +17,15 @@ use Rattle.outcomes.specs.declared.Came.{Came}
 use Rattle.outcomes.specs.declared.Came.the-variants.{Told, Called}
 use Rattle.phrases.specs.Sentence.{most, blank, _▹_}
 use Rattle.phrases.specs.declared.Piece.{Piece}
-use Rattle.phrases.specs.declared.Piece.the-variants.{Word, Number, Right, Hex, Column}
+use Rattle.phrases.specs.declared.Piece.the-variants.{Word, Number, Hex, Column}
 use Rattle.phrases.specs.declared.Sentence.{Sentence}
 use Rattle.asking.specs.Names.{namedFrom, named, counted}
-use Rattle.asking.specs.Forms.{forms, rowAt, isForm, form, register, valued, slot, slots, asked}
+use Rattle.asking.specs.Forms.{forms, rowAt, form, register, valued, slot, slots, asked}
 use Rattle.asking.specs.declared.Given.{Given}
 use Rattle.asking.specs.declared.Known.{Known}
 use Rattle.asking.specs.declared.Known.the-variants.{World, Handler, Attributes, Kind}
 use Rattle.outcome_words.specs.Came.{turned, answered, cameSaid}
-use Rattle.telling.specs.Telling.{opening, setupLine, siteAsked, entryAsked, nameAsked, onCore, speaker, arrivalSaid, noFrame, sentenceOf}
+use Rattle.telling.specs.Telling.{speaker, sentenceOf}
 
 -- it has at most so many pieces
 record Has (n : ℕ) (s : Sentence) : Type 0 where

@@ -1,10 +1,9 @@
 -- What a run told in words says, line by line, beside what the monitor answers.
 use mathlib.Core.Path.{_≡_}
-use mathlib.Core.List.{List, [], _∷_, _++_, map}
+use mathlib.Core.List.{List, [], _∷_, map}
 use Prim.Native.Nat.{ℕ, _+_}
 use lib.ListN.{length}
 use Rattle.calls.specs.Step.{called}
-use Rattle.parsing.specs.declared.Status.{Status}
 use Rattle.lines.specs.Lines.{linesOf}
 use Rattle.lines.specs.Input.{readings}
 use Rattle.frames.specs.Frames.{Machine, first, stateOf, framed}
@@ -16,7 +15,7 @@ use Rattle.phrases.specs.declared.Sentence.{Sentence}
 use Rattle.telling.specs.Telling.{sentenceOf}
 use Rattle.views.specs.declared.View.the-variants.{All}
 use Rattle.explaining.specs.Explained.{explained}
-use Rattle.guarantees.specs.Runs.{Event, Events, ran}
+use Rattle.guarantees.specs.Runs.{Event, Events}
 
 -- The sentence of a line, with its number, by the monitor's own reply to it: the status that it is told; or of an accepted call who
 -- called and what was answered, as the call itself gives them, and the world that the reply shows.

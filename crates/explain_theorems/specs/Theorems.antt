@@ -29,7 +29,6 @@ use Rattle.views.specs.Views.{shows}
 use Rattle.views.specs.declared.View.the-variants.{All}
 use Rattle.running.specs.Running.{runningOn, runsAfter}
 use Rattle.phrases.specs.Text.{textOf, lineText}
-use Rattle.phrases.specs.declared.Sentence.{Sentence}
 use Rattle.telling.specs.Telling.{sentenceOf}
 use Rattle.explaining.specs.Explained.{sentence, toldLine, wordsOf, explained}
 use Rattle.guarantees.specs.Runs.{Event, Events}

@@ -1,14 +1,14 @@
 -- No text of a sentence has a newline in it.
-use mathlib.Core.Path.{_≡_, refl, _∙_}
-use mathlib.Core.Bool.{Bool, true, false, _||_}
+use mathlib.Core.Path.{_≡_, refl}
+use mathlib.Core.Bool.{Bool, false, _||_}
 use mathlib.Core.List.{List, [], _∷_, _++_}
 use Prim.Native.Nat.{ℕ, zero, suc, _+_, _-_, _/_, _%_, _<_}
 use Prim.Native.String.{String}
 use native.Mathlib.Omega.{arith}
 use lib.Dec.{ltb, eqb}
-use lib.ListN.{length, getD, take, List·getD-eq-default}
-use borrow.Author.Tests.{ne-eqb, ltb-true, ltb-false}
-use Rattle.rules.specs.Choice.{pick, chosen, either, neither, not-first, not-second}
+use lib.ListN.{length, getD, take}
+use borrow.Author.Tests.{ne-eqb}
+use Rattle.rules.specs.Choice.{pick, chosen, neither, not-first, not-second}
 use Rattle.hex.specs.Hex.{signOf, inHex}
 use Rattle.hex.specs.Signs.{signs}
 use Rattle.lines.specs.Lines.{Unbroken}

@@ -5,7 +5,6 @@ use Rattle.rules.specs.Choice.{pick}
 use Rattle.parsing.specs.declared.Frame.{Frame}
 use Rattle.lines.specs.Meant.{meant}
 use Rattle.lines.specs.Input.{reading}
-use Rattle.frames.specs.Frames.{Machine}
 use Rattle.outcomes.specs.Outcomes.{came}
 use Rattle.origins.specs.Lines.{linesIn}
 use Rattle.tracing.specs.Traced.{Kept, start, afterLine}

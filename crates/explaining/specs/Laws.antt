@@ -1,18 +1,16 @@
 -- How the code of a line meets the definitions, and what any lines come to where there is room for them.
-use mathlib.Core.Path.{_≡_, refl, sym, ap, _∙_}
+use mathlib.Core.Path.{_≡_, refl, ap, _∙_}
 use mathlib.Core.Bool.{Bool, true, false}
 use mathlib.Core.List.{List, [], _∷_, _++_}
-use Prim.Native.Nat.{ℕ, suc, _+_, _*_, _≤_}
+use Prim.Native.Nat.{ℕ, _+_, _*_, _≤_}
 use native.Mathlib.Omega.{arith}
-use lib.Dec.{leb}
 use lib.ListN.{length, length-append}
 use borrow.Author.Tests.{le-leb}
-use Rattle.rules.specs.Choice.{pick, pick-yes, pick-no, picked, passed, by}
+use Rattle.rules.specs.Choice.{pick, pick-yes, pick-no, by}
 use Rattle.tools.specs.Laid.{laid, laid-append, length-laid}
 use Rattle.parsing.specs.Frame.{isCall}
 use Rattle.parsing.specs.declared.Frame.{Frame}
 use Rattle.parsing.specs.declared.Frame.the-variants as Frame
-use Rattle.frames.specs.Frames.{Machine}
 use Rattle.inputs.specs.Folds.{folded}
 use Rattle.outcomes.specs.Outcomes.{came}
 use Rattle.outcomes.specs.declared.Came.{Came}

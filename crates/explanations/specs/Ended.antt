@@ -10,7 +10,7 @@ use Rattle.pages.specs.Owners.{unowned}
 use Rattle.pages.specs.Named.{unnamed}
 use Rattle.mapping.specs.Lists.{unmapped}
 use Rattle.setup.specs.Table.{unset}
-use Rattle.frames.specs.Frames.{Machine, machine}
+use Rattle.frames.specs.Frames.{machine}
 use Rattle.origins.specs.Origins.{none}
 use Rattle.origins.specs.Lines.{noLine}
 use Rattle.tracing.specs.Traced.{Kept, start}

@@ -1,5 +1,5 @@
 -- How far a feed goes that prints nothing, and what it leaves, whatever is kept and whatever a line means: all complete lines are taken.
-use mathlib.Core.Path.{_≡_, refl, sym, ap, _∙_}
+use mathlib.Core.Path.{_≡_, refl, ap, _∙_}
 use mathlib.Core.Bool.{true}
 use mathlib.Core.List.{List, [], _∷_, _++_}
 use Prim.Native.Nat.{ℕ, _+_, _-_, _≤_}

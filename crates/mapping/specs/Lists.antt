@@ -1,6 +1,6 @@
 -- The mappings that each world holds, how one is put among them and how one is taken out. Shut: the laws say the rest.
 use mathlib.Core.Path.{_≡_, refl, sym, ap, _∙_}
-use mathlib.Core.Bool.{Bool, true, false, _&&_}
+use mathlib.Core.Bool.{Bool, true, false}
 use mathlib.Core.List.{List, []}
 use mathlib.Core.Option.{Option, none, some}
 use Prim.Native.Nat.{ℕ, _+_, _-_, _*_, _%_, _^_, _≤_, _<_}
@@ -19,13 +19,13 @@ use Rattle.mapping.specs.Places.{gathered, lowest, lowest-any, lowest-no
 pub use Rattle.places.specs.Table.{unmapped, WholeLists, unmapped-whole, place}
 use Rattle.places.specs.Found.{found, latest, latest-most, latest-answers, latest-fails, latest-same, spot, spot-reach, spot-free, spot-full, spot-same, clashed}
 use Rattle.places.specs.Decider.{decider}
-use Rattle.places.specs.Table.{blank, reach, reach-most, reach-no-world, place-out, stored, stored-whole, stored-at, stored-same, stored-within, stored-elsewhere, stored-no-world, stored-no-place, freed, freed-not, freed-whole, freed-same, freed-within, freed-elsewhere, unmapped-blank}
+use Rattle.places.specs.Table.{blank, reach, reach-no-world, place-out, stored, stored-whole, stored-at, stored-same, stored-within, stored-elsewhere, stored-no-world, stored-no-place, freed, freed-whole, freed-same, freed-within, freed-elsewhere, unmapped-blank}
 use Rattle.ranges.specs.declared.Mapping.{Mapping}
 use Rattle.mapping.specs.declared.Decider.{Decider}
 use Rattle.mapping.specs.declared.Decider.the-variants.{By, Nobody}
 use Rattle.mapping.specs.declared.Lead.the-variants.{To, Nowhere}
 use Rattle.ranges.specs.declared.Question.{Question}
-use Rattle.ranges.specs.declared.Question.the-variants.{Free, Exact, OnPages, OnRange, Touches}
+use Rattle.ranges.specs.declared.Question.the-variants.{Exact, OnPages, OnRange, Touches}
 
 -- the mappings that the world holds, in the order of their places
 pub held : List ℕ → ℕ → List Mapping

@@ -1,7 +1,6 @@
 -- Sentences and their text, worked out from the definitions: columns on either side of what stands before them, short and long numbers, and a sentence that is full.
 use mathlib.Core.Path.{_≡_, refl}
 use mathlib.Core.List.{_++_}
-use Prim.Native.Nat.{ℕ}
 use Rattle.rules.specs.Choice.{pick}
 use Rattle.hex.specs.Hex.{inHex, signOf}
 use Rattle.hex.specs.Signs.{signs}

@@ -1,12 +1,10 @@
 -- A sentence: pieces one behind the other, at most 32.
 use mathlib.Core.Path.{_≡_, refl}
-use mathlib.Core.Bool.{Bool, true, false}
-use mathlib.Core.List.{List}
 use Prim.Native.Nat.{ℕ, _+_, _≤_, _<_}
 use lib.Dec.{ltb, eqb}
 use lib.ListN.{getD, set, replicate}
-use borrow.Author.Tests.{lt-ltb, le-ltb, eq-eqb, ne-eqb}
-use Rattle.rules.specs.Choice.{pick, picked, passed, pick-yes, pick-no}
+use borrow.Author.Tests.{lt-ltb, le-ltb, ne-eqb}
+use Rattle.rules.specs.Choice.{pick, picked, passed}
 use Rattle.phrases.specs.declared.Piece.{Piece}
 use Rattle.phrases.specs.declared.Piece.the-variants.{Word, Number, Right, Hex, Column}
 use Rattle.phrases.specs.declared.Sentence.{Sentence}

@@ -1,6 +1,5 @@
 // Sentences: short rows of pieces by value, and the line of text that each makes.
 ghost use mathlib.Core.Path.{_≡_};
-ghost use mathlib.Core.List.{List};
 ghost use Prim.Native.Nat.{_+_, _≤_};
 ghost use lib.ListN.{length};
 ghost use Rattle.tools.specs.Laid.{put};

@@ -1,6 +1,6 @@
 -- The table: four numbers for each of sixteen places of four worlds, and behind them each world's reach: no place from there on is held.
 -- Its layout is known in this file alone: the laws say the rest.
-use mathlib.Core.Path.{_≡_, refl, sym, ap, _∙_}
+use mathlib.Core.Path.{_≡_, refl, sym, _∙_}
 use mathlib.Core.Bool.{Bool, true, false, not, _&&_}
 use mathlib.Core.List.{List}
 use Prim.Native.Nat.{ℕ, zero, suc, _+_, _-_, _*_, _≤_, _<_}

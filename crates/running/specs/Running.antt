@@ -1,9 +1,9 @@
 -- The world that runs on a core, 255 where the core is not ON.
-use mathlib.Core.Path.{_≡_, refl, sym, ap, _∙_}
+use mathlib.Core.Path.{_≡_, refl}
 use mathlib.Core.Bool.{Bool, true, false}
 use mathlib.Core.List.{List}
 use Prim.Native.Nat.{ℕ}
-use Rattle.rules.specs.Choice.{pick, picked, passed, by, pick-yes, pick-no}
+use Rattle.rules.specs.Choice.{pick, picked, passed}
 use Rattle.cores.specs.Power.{isOn}
 use Rattle.cores.specs.Cores.{power, turn}
 use Rattle.cores.specs.declared.Power.{Power}
