@@ -17,7 +17,7 @@ use Rattle.views.specs.declared.View.{View}
 use Rattle.views.specs.declared.View.the-variants as View
 use Rattle.endings.specs.declared.Part.{Part}
 use Rattle.endings.specs.declared.Part.the-variants.{Stands, Page, Legend, Row}
-use Rattle.endings.specs.Ending.{endText}
+use Rattle.endings.specs.Ending.{endLines, endText}
 use Rattle.endings.specs.Rest.{firstPart, isOver, nextPart, partLine, linesFrom, textFrom, filling}
 use Rattle.endings.specs.Behind.{parts-go, parts-over}
 
@@ -135,8 +135,11 @@ module _ (n s o t p u l : List ℕ) where
         omega (arith, no-less behind (0 + length line) (laid out 0 line), some-line x)
 
   -- ---- from the first part on it is the whole end
+  pub first-lines : (v : View) → from (firstPart v) ≡ endLines n s o t p u l v
+  first-lines View.All = refl
+  first-lines (View.Page address) = refl
+  first-lines View.Map = refl
+
   pub first-text : (v : View) → textFrom n s o t p u l (firstPart v) ≡ endText n s o t p u l v
   unfolding endText
-  first-text View.All = refl
-  first-text (View.Page address) = refl
-  first-text View.Map = refl
+  first-text v = ap joined (first-lines v)

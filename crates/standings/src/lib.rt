@@ -1,7 +1,7 @@
 // The end of an explanation, on standard output: how things stand, whose page was asked about, or the picture of the window.
 ghost use mathlib.Core.Path.{_≡_};
 ghost use mathlib.Core.Bool.{true};
-ghost use Rattle.endings.specs.Ending.{endText};
+ghost use Rattle.endings.specs.Ending.{endLines};
 ghost use Rattle.standings.specs.Written.{Written};
 use cores::Powers;
 use cores::Turns;
@@ -27,7 +27,7 @@ pub fn tell(
     turns: &Turns,
     lists: &Lists,
 ) -> bool
-    ensures { λ r. ⌜ (r ≡ true → Written (endText (now (lines .entry)) (now (setup .entry)) (now (owners .entry)) (now (origins .entry)) (now (powers .entry)) (now (turns .entry)) (now (lists .entry)) view) (now (out .exit))) ⌝ }
+    ensures { λ r. ⌜ (r ≡ true → Written (endLines (now (lines .entry)) (now (setup .entry)) (now (owners .entry)) (now (origins .entry)) (now (powers .entry)) (now (turns .entry)) (now (lists .entry)) view) (now (out .entry)) (now (out .exit))) ⌝ }
 {
     let mut part = endings::first_part(view);
     loop {

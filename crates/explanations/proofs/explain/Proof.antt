@@ -47,7 +47,7 @@ returns c y =
     let said = c .before .before .before .before .before .before .before .before .before in
     let read = said .before in
     let tables = read .before .before .before .before .before .before .before .before .before .before .before in
-    ended _ _ _ _ _ _ _ _ _ _ _ _ _ _ _ _ _ _ _ _ _ _ _ _
+    ended _ _ _ _ _ _ _ _ _ _ _ _ _ _ _ _ _ _ _ _ _ _ _ _ _
     (tables .before .before .before .before .before .before .before .before .before .fresh .ensures)
     (tables .before .before .before .before .before .before .before .before .fresh-named .ensures)
     (tables .before .before .before .before .before .before .before .fresh2 .ensures)

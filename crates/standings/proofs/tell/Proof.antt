@@ -9,7 +9,7 @@ use Rattle.endings.specs.Rest.{linesFrom}
 use Rattle.standings.specs.Written.{Telling, telling-first, telling-next, telling-fewer, telling-last}
 
 abbrev Inv-loop : tie.InvT-loop
-Inv-loop out₀ lines setup owners origins powers turns lists part₀ out part = Telling lines setup owners origins powers turns lists part₀ part
+Inv-loop out₀ lines setup owners origins powers turns lists part₀ out part = Telling lines setup owners origins powers turns lists part₀ out₀ part out
 
 abbrev μ-loop : tie.MeasureT-loop
 μ-loop out₀ lines setup owners origins powers turns lists part₀ out part = length (linesFrom lines setup owners origins powers turns lists part)
