@@ -1,5 +1,7 @@
 // A line of a run told in words: its number, who speaks on which core, what is asked, and what came of it.
 ghost use mathlib.Core.Path.{_≡_};
+ghost use Rattle.words.specs.Words as w;
+ghost use Rattle.outcome_words.specs.Came.{cameSaid};
 ghost use Rattle.telling.specs.Telling.{opening, setupLine, siteAsked, entryAsked, nameAsked, onCore, speaker, arrivalSaid, lineOf, noFrame, sentenceOf};
 use asking::Known;
 use outcomes::Came;
@@ -118,6 +120,21 @@ fn no_frame(n: u64, why: Status) -> Sentence
     t.with(Piece::Word(line_word(why)))
 }
 
+// What came of a line of set-up, where this is the word for a clash.
+fn set_up(s: Sentence, clash: u64, came: Came, runs: u64) -> Sentence
+    ensures { λ t. ⌜ t ≡ cameSaid s w.accepted w.outOfRange clash w.granted came runs ⌝ }
+{
+    outcome_words::outcome(
+        s,
+        w::ACCEPTED,
+        w::OUT_OF_RANGE,
+        clash,
+        w::GRANTED,
+        came,
+        runs,
+    )
+}
+
 // The sentence of line n: its frame, with the eight numbers that stand beside it, what came of it, and the world that runs
 // on its core then.
 pub fn tell(n: u64, frame: Frame, x: &[u64; 8], came: Came, runs: u64) -> Sentence
@@ -126,15 +143,7 @@ pub fn tell(n: u64, frame: Frame, x: &[u64; 8], came: Came, runs: u64) -> Senten
     match frame {
         Frame::Site { base, pages, cores } => {
             let s = site(n, base, pages, cores);
-            outcome_words::outcome(
-                s,
-                w::ACCEPTED,
-                w::OUT_OF_RANGE,
-                w::OUT_OF_RANGE,
-                w::GRANTED,
-                came,
-                runs,
-            )
+            set_up(s, w::OUT_OF_RANGE, came, runs)
         }
         Frame::Entry {
             first,
@@ -143,15 +152,7 @@ pub fn tell(n: u64, frame: Frame, x: &[u64; 8], came: Came, runs: u64) -> Senten
             handler,
         } => {
             let s = entry(n, first, last, kind, handler);
-            outcome_words::outcome(
-                s,
-                w::ACCEPTED,
-                w::OUT_OF_RANGE,
-                w::GIVEN_BEFORE,
-                w::GRANTED,
-                came,
-                runs,
-            )
+            set_up(s, w::GIVEN_BEFORE, came, runs)
         }
         Frame::Name {
             first,
@@ -159,15 +160,7 @@ pub fn tell(n: u64, frame: Frame, x: &[u64; 8], came: Came, runs: u64) -> Senten
             owner,
         } => {
             let s = pages(n, first, count, owner);
-            outcome_words::outcome(
-                s,
-                w::ACCEPTED,
-                w::OUT_OF_RANGE,
-                w::NAMED_BEFORE,
-                w::GRANTED,
-                came,
-                runs,
-            )
+            set_up(s, w::NAMED_BEFORE, came, runs)
         }
         Frame::Call { core } => {
             let s = asking::ask(
@@ -192,15 +185,7 @@ pub fn tell(n: u64, frame: Frame, x: &[u64; 8], came: Came, runs: u64) -> Senten
         }
         Frame::Refused(why) => {
             let s = no_frame(n, why);
-            outcome_words::outcome(
-                s,
-                w::ACCEPTED,
-                w::OUT_OF_RANGE,
-                w::OUT_OF_RANGE,
-                w::GRANTED,
-                came,
-                runs,
-            )
+            set_up(s, w::OUT_OF_RANGE, came, runs)
         }
     }
 }

@@ -10,8 +10,8 @@ enum-known-frame c = search needs
 site-requires : tie.Need-site-requires
 site-requires c κs = search needs
 
-outcome-requires : tie.Need-outcome-requires
-outcome-requires c κs = search needs
+set-up-requires : tie.Need-set-up-requires
+set-up-requires c κs = search needs
 
 enum-known-frame-2 : tie.Need-enum-known-frame-2
 enum-known-frame-2 c = search needs
@@ -19,8 +19,8 @@ enum-known-frame-2 c = search needs
 entry-requires : tie.Need-entry-requires
 entry-requires c κs = search needs
 
-outcome-requires-2 : tie.Need-outcome-requires-2
-outcome-requires-2 c κs = search needs
+set-up-requires-2 : tie.Need-set-up-requires-2
+set-up-requires-2 c κs = search needs
 
 enum-known-frame-3 : tie.Need-enum-known-frame-3
 enum-known-frame-3 c = search needs
@@ -28,8 +28,8 @@ enum-known-frame-3 c = search needs
 pages-requires : tie.Need-pages-requires
 pages-requires c κs = search needs
 
-outcome-requires-3 : tie.Need-outcome-requires-3
-outcome-requires-3 c κs = search needs
+set-up-requires-3 : tie.Need-set-up-requires-3
+set-up-requires-3 c κs = search needs
 
 enum-known-frame-4 : tie.Need-enum-known-frame-4
 enum-known-frame-4 c = search needs
@@ -46,8 +46,8 @@ ask-requires c κs = search needs
 done-word-requires : tie.Need-done-word-requires
 done-word-requires c κs = search needs
 
-outcome-requires-4 : tie.Need-outcome-requires-4
-outcome-requires-4 c κs = search needs
+outcome-requires : tie.Need-outcome-requires
+outcome-requires c κs = search needs
 
 enum-known-frame-5 : tie.Need-enum-known-frame-5
 enum-known-frame-5 c = search needs
@@ -55,8 +55,8 @@ enum-known-frame-5 c = search needs
 arrival-requires : tie.Need-arrival-requires
 arrival-requires c κs = search needs
 
-outcome-requires-5 : tie.Need-outcome-requires-5
-outcome-requires-5 c κs = search needs
+outcome-requires-2 : tie.Need-outcome-requires-2
+outcome-requires-2 c κs = search needs
 
 enum-known-frame-6 : tie.Need-enum-known-frame-6
 enum-known-frame-6 c = search needs
@@ -64,8 +64,8 @@ enum-known-frame-6 c = search needs
 no-frame-requires : tie.Need-no-frame-requires
 no-frame-requires c κs = search needs
 
-outcome-requires-6 : tie.Need-outcome-requires-6
-outcome-requires-6 c κs = search needs
+set-up-requires-4 : tie.Need-set-up-requires-4
+set-up-requires-4 c κs = search needs
 
 returns : tie.Need-returns
 returns c = search (tells, needs)
@@ -91,25 +91,25 @@ tell-spec =
     (tie.spec
     enum-known-frame
     site-requires
-    outcome-requires
+    set-up-requires
     enum-known-frame-2
     entry-requires
-    outcome-requires-2
+    set-up-requires-2
     enum-known-frame-3
     pages-requires
-    outcome-requires-3
+    set-up-requires-3
     enum-known-frame-4
     speaker-requires
     is-handed-requires
     ask-requires
     done-word-requires
-    outcome-requires-4
+    outcome-requires
     enum-known-frame-5
     arrival-requires
-    outcome-requires-5
+    outcome-requires-2
     enum-known-frame-6
     no-frame-requires
-    outcome-requires-6
+    set-up-requires-4
     returns
     returns-2
     returns-3
