@@ -32,6 +32,7 @@ from vet import vet
 from walk import walk
 
 PER_LIST = 20
+LONGEST = 32768  # the most numbers of a file that the program judges; what is past them is cut off for both sides
 
 
 def differ(*words):
@@ -139,6 +140,7 @@ def compare_vet(count, seed):
         numbers = tables(run.mappings) if dice.randrange(2) else vendor(run.mappings, dice)
         if dice.randrange(20):
             numbers = damage(numbers, dice)
+        numbers = numbers[:LONGEST]
         ours, theirs = vet(numbers, run.mappings), vetted_by(command, run, numbers)
         if ours != theirs:
             differ(f"seed {number}: {ours[0]:x} {ours[1]:x} expected, got {theirs}")
