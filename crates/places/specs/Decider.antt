@@ -23,7 +23,7 @@ unfoldable pub decider : List ℕ → ℕ → ℕ → Mapping
 decider t w x = smallestFrom (place t w) x 0 places
 
 -- ---- a free place holds no address
-free-holds : (x : ℕ) (m : Mapping) → isFree m ≡ true → holds x m ≡ false
+pub free-holds : (x : ℕ) (m : Mapping) → isFree m ≡ true → holds x m ≡ false
 unfolding holds
 free-holds x m e =
     let z : m .size ≡ 0 = eqb-true _ _ e in

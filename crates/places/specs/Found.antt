@@ -2,14 +2,14 @@
 use mathlib.Core.Path.{_≡_, refl, sym, _∙_}
 use mathlib.Core.Bool.{Bool, true, false}
 use mathlib.Core.List.{List}
-use Prim.Native.Nat.{ℕ, zero, suc, _+_, _-_, _≤_, _<_}
+use Prim.Native.Nat.{ℕ, suc, _+_, _-_, _≤_, _<_}
 use native.Mathlib.Omega.{arith}
 use lib.Dec.{ltb, eqb}
 use borrow.Author.Tests.{lt-ltb, le-ltb, ltb-true, ltb-false, eq-eqb, ne-eqb, eqb-true}
-use Rattle.rules.specs.Choice.{pick, picked, passed, pick-yes, pick-no, either, chosen, neither, right-false}
+use Rattle.rules.specs.Choice.{pick, picked, passed, pick-yes, pick-no, either, chosen, right-false}
 use Rattle.rules.specs.Sizes.{worlds}
 use Rattle.ranges.specs.Mapping.{exact}
-use Rattle.tools.specs.Search.{first, first-is, first-goes, first-stops, first-ends, any, any-goes, any-stops}
+use Rattle.tools.specs.Search.{first, first-is, first-goes, first-stops, first-ends, any, any-goes, any-stops, any-if-not}
 use Rattle.ranges.specs.Question.{isFree, asksFree, asks, answers, clashing}
 use Rattle.ranges.specs.declared.Mapping.{Mapping}
 use Rattle.ranges.specs.declared.Question.{Question}
@@ -41,7 +41,7 @@ free-clashes : (n m : Mapping) → isFree m ≡ true → clashing n m ≡ clashi
 unfolding clashing
 free-clashes n m e = pick-yes (isFree m) _ _ e ∙ sym (pick-yes (isFree blank) _ _ refl)
 
-free-asked : (m : Mapping) → answers Free m ≡ isFree m
+pub free-asked : (m : Mapping) → answers Free m ≡ isFree m
 unfolding answers asksFree asks
 free-asked m = either (isFree m) (λ y. pick-yes (isFree m) _ _ y ∙ sym y) (λ n. pick-no (isFree m) _ _ n ∙ sym n)
 
@@ -60,11 +60,6 @@ first-blind p a n h =
     either (ltb (first p a n) (a + n))
     (λ y. let z : true ≡ false = sym (r .passes (ltb-true (first p a n) (a + n) y)) ∙ h (first p a n) (r .low) in cc)
     (λ z. omega (arith, r .high, ltb-false (first p a n) (a + n) z))
-
-any-blind : (p : ℕ → Bool) (a n : ℕ) → ((j : ℕ) → a ≤ j → p j ≡ false) → any p a n ≡ false
-unfolding any
-any-blind p a zero h = refl
-any-blind p a (suc n) h = neither (p a) _ (h a (omega arith)) (any-blind p (suc a) n (λ j l. h j (omega arith)))
 
 -- ---- the loops of this crate's code: e is the world's reach, and the places below i do not answer
 pub record Searching (t : List ℕ) (w : ℕ) (q : Question) (e i : ℕ) : Type 0 where
@@ -218,8 +213,8 @@ module _ (t : List ℕ) (w : ℕ) (n : Mapping) (e i : ℕ) (s : Clearing t w n 
 
   pub clearing-ends : e ≤ i → false ≡ clashed t w n
   clearing-ends h =
-      sym (s .rest ∙ any-blind (λ (j : ℕ). clashing n (place t w j)) i (places - i)
-      (λ j l. let z : reach t w ≤ j = omega (arith, s .is-reach) in rw (place-out t w j z) (blank-clashes n)))
+      sym (s .rest ∙ any-if-not (λ (j : ℕ). clashing n (place t w j)) i (places - i)
+      (λ j l u. let z : reach t w ≤ j = omega (arith, s .is-reach) in rw (place-out t w j z) (blank-clashes n)))
 
 pub ruleset clearing = (clearing-starts, clearing-goes, clearing-stops, clearing-ends)
 
