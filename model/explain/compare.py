@@ -35,9 +35,9 @@ LINE = re.compile(r" *(\d+) (set-up|no frame|core (\d+)(?: (Root|Secure|Normal|R
 
 
 REASONS = {
-    1: ["not served", "overlaps another"], 2: ["no valid argument"], 3: ["not the giver's"], 4: ["already ON"],
-    5: ["already pending", "no pages asked for"], 6: ["a page is mapped"], 9: ["bad start address"], 12: ["16 mappings held"],
-    13: ["not its own page"], 14: ["leads nowhere"], 22: ["not well formed", "no such mapping"], 34: ["past the limits"],
+    1: ["not served", "overlaps another"], 2: ["invalid argument"], 3: ["not the giver's"], 4: ["already ON"],
+    5: ["already pending", "asks for no page"], 6: ["a page is mapped"], 9: ["bad address"], 12: ["has 16 mappings"],
+    13: ["not its page"], 14: ["leads nowhere"], 22: ["not well formed", "no such mapping"], 34: ["past the limits"],
 }
 MEANINGS = {"ON": (0x84000004, 0), "OFF": (0x84000004, 1), "pending": (0x84000004, 2), "yes": (0xC2000012, 1), "no": (0xC2000012, 0)}
 VERSIONS = {0x80000000: (1, 3), 0x84000000: (1, 1)}
@@ -46,6 +46,10 @@ QUESTIONS = (0x80000001, 0x8400000A)
 
 def address(x):
     return "%0*x" % (8 if x < 2**32 else 12 if x < 2**48 else 16, x)
+
+
+def value(x):
+    return "%02x" % x if x < 2**8 else "%04x" % x if x < 2**16 else address(x)
 
 
 def key_of(numbers):
@@ -69,16 +73,16 @@ def call_asked(numbers, handed):
     words = {
         0x80000000: "tell the version of calls", 0x80000001: f"tell whether this call is known: {page}",
         0x84000000: "tell the version of core power", 0x84000002: "turn this core OFF",
-        0x84000003: f"start core {x[1]} at {address(x[2])} with {address(x[3])}", 0x84000004: f"tell the state of core {x[1]} at level {x[2]}",
+        0x84000003: f"start core {x[1]} at {address(x[2])} with {value(x[3])}", 0x84000004: f"tell the state of core {x[1]} at level {x[2]}",
         0x8400000A: f"tell whether core power knows {page}", 0xC40001B0: f"take the page at {page}", 0xC40001B1: f"give back the page at {page}",
         0xC2000010: f"take {many(x[2], 'page')} from {page}", 0xC2000011: f"give back {many(x[2], 'page')} from {page}",
         0xC2000012: f"tell whether it owns {page}", 0xC2000022: f"tell where this address leads: {page}",
         0xC2000020: f"map {page} at {address(x[2])}, {many(x[3], 'byte')}, {named(x[4], ATTRIBUTES, 'attributes')}",
         0xC2000021: f"unmap {page}, {many(x[2], 'byte')}", 0xC2000030: "count the cores that are ON",
-        0xC400018F: "finish with " + " ".join(map(address, x[1:6])), 0xF2000000: "finish with " + " ".join(map(address, x[1:5])),
+        0xC400018F: "finish with " + " ".join(map(value, x[1:6])), 0xF2000000: "finish with " + " ".join(map(value, x[1:5])),
     }
     words[0xC4000003], words[0xC4000004] = words[0x84000003], words[0x84000004]
-    return not handed and words.get(key) or f"call {address(key)} with {page} {address(x[2])} {address(x[3])}"
+    return not handed and words.get(key) or f"call {address(key)} with {value(x[1])} {value(x[2])} {value(x[3])}"
 
 
 def asked(line, status, handed):
@@ -149,7 +153,9 @@ class Reader:
         if (WORLDS.get(found[4]) if found[4] else None) != caller or not found[5].startswith(what + " "):
             return False
         text = found[5][len(what):].lstrip()
-        if len(words) < 101 and len(what) < 49 and core in (None, *range(8)) and number < 10000 and words[69:70] != b" ":
+        moved = max(6, len(str(number)))
+        begins = (found.start(2), found.start(4) if found[4] else moved + 8, found.start(5), len(words) - len(text))
+        if begins[:3] != (moved + 1, moved + 8, moved + 16) or begins[3] != moved + 66 and len(what) < 50 or len(words) > moved + 94 and len(what) < 50:
             return False
         key = key_of([int(line[4:20], 16)]) if core is not None and what != "arrives" else None
         if not came(text, answer, key, caller):

@@ -14,7 +14,7 @@ use Rattle.judgements.specs.declared.Request.{Request}
 use Rattle.judging.specs.Laws.{requestOf}
 use Rattle.words.specs.Words as w
 use Rattle.phrases.specs.Sentence.{_▹_}
-use Rattle.phrases.specs.declared.Piece.the-variants.{Word, Number, Hex}
+use Rattle.phrases.specs.declared.Piece.the-variants.{Word, Number, Hex, Value}
 use Rattle.phrases.specs.declared.Sentence.{Sentence}
 use Rattle.asking.specs.Names.{named, counted}
 use Rattle.asking.specs.declared.Given.{Given}
@@ -30,14 +30,17 @@ inNumber = 2
 abbrev inHex : ℕ
 inHex = 3
 
+abbrev asValue : ℕ
+asValue = 4
+
 abbrev inPages : ℕ
-inPages = 4
+inPages = 5
 
 abbrev inBytes : ℕ
-inBytes = 5
+inBytes = 6
 
 abbrev asAttributes : ℕ
-asAttributes = 6
+asAttributes = 7
 
 -- so many arguments that are not told
 abbrev nothing : ℕ → List ℕ
@@ -50,8 +53,8 @@ forms =
     ∷ (features, w.askKnown ∷ 1 ∷ inHex ∷ nothing 4)
     ∷ (powerVersion, w.askPower ∷ 0 ∷ alone ∷ nothing 4)
     ∷ (coreOff, w.turnOff ∷ 0 ∷ alone ∷ nothing 4)
-    ∷ (coreStart, w.start ∷ 1 ∷ inNumber ∷ w.at ∷ 2 ∷ inHex ∷ w.context ∷ 3 ∷ inHex ∷ nothing 2)
-    ∷ (coreStartWide, w.start ∷ 1 ∷ inNumber ∷ w.at ∷ 2 ∷ inHex ∷ w.context ∷ 3 ∷ inHex ∷ nothing 2)
+    ∷ (coreStart, w.start ∷ 1 ∷ inNumber ∷ w.at ∷ 2 ∷ inHex ∷ w.context ∷ 3 ∷ asValue ∷ nothing 2)
+    ∷ (coreStartWide, w.start ∷ 1 ∷ inNumber ∷ w.at ∷ 2 ∷ inHex ∷ w.context ∷ 3 ∷ asValue ∷ nothing 2)
     ∷ (coreState, w.askState ∷ 1 ∷ inNumber ∷ w.level ∷ 2 ∷ inNumber ∷ nothing 3)
     ∷ (coreStateWide, w.askState ∷ 1 ∷ inNumber ∷ w.level ∷ 2 ∷ inNumber ∷ nothing 3)
     ∷ (powerFeatures, w.askPowers ∷ 1 ∷ inHex ∷ nothing 4)
@@ -64,9 +67,9 @@ forms =
     ∷ (unmapPages, w.unmap ∷ 1 ∷ inHex ∷ w.comma ∷ 2 ∷ inBytes ∷ nothing 3)
     ∷ (whereLeads, w.askWhere ∷ 1 ∷ inHex ∷ nothing 4)
     ∷ (countOn, w.count ∷ 0 ∷ alone ∷ nothing 4)
-    ∷ (realmFinish, w.finish ∷ 1 ∷ inHex ∷ w.blank ∷ 2 ∷ inHex ∷ w.blank ∷ 3 ∷ inHex ∷ w.blank ∷ 4 ∷ inHex ∷ w.blank ∷ 5 ∷ inHex ∷ [])
-    ∷ (secureFinish, w.finish ∷ 1 ∷ inHex ∷ w.blank ∷ 2 ∷ inHex ∷ w.blank ∷ 3 ∷ inHex ∷ w.blank ∷ 4 ∷ inHex ∷ nothing 1)
-    ∷ (0, w.other ∷ 0 ∷ inHex ∷ w.context ∷ 1 ∷ inHex ∷ w.blank ∷ 2 ∷ inHex ∷ w.blank ∷ 3 ∷ inHex ∷ nothing 1)
+    ∷ (realmFinish, w.finish ∷ 1 ∷ asValue ∷ w.blank ∷ 2 ∷ asValue ∷ w.blank ∷ 3 ∷ asValue ∷ w.blank ∷ 4 ∷ asValue ∷ w.blank ∷ 5 ∷ asValue ∷ [])
+    ∷ (secureFinish, w.finish ∷ 1 ∷ asValue ∷ w.blank ∷ 2 ∷ asValue ∷ w.blank ∷ 3 ∷ asValue ∷ w.blank ∷ 4 ∷ asValue ∷ nothing 1)
+    ∷ (0, w.other ∷ 0 ∷ inHex ∷ w.context ∷ 1 ∷ asValue ∷ w.blank ∷ 2 ∷ asValue ∷ w.blank ∷ 3 ∷ asValue ∷ nothing 1)
     ∷ []
 
 unfoldable pub keyAt : ℕ → ℕ
@@ -92,9 +95,10 @@ valued s how x =
     pick (eqb how alone) s
     (pick (eqb how inNumber) (s ▹ Number x)
     (pick (eqb how inHex) (s ▹ Hex x)
+    (pick (eqb how asValue) (s ▹ Value x)
     (pick (eqb how inPages) (counted s x w.page w.pages)
     (pick (eqb how inBytes) (counted s x w.byte w.bytes)
-    (named s Attributes x)))))
+    (named s Attributes x))))))
 
 -- one argument, behind its word
 unfoldable pub slot : Sentence → ℕ → ℕ → ℕ → Given → Sentence
@@ -168,9 +172,9 @@ module _ (s r : Sentence) (how x : ℕ) where
   pub value-row : (n : ℕ) → how ≡ n → r ≡ valued s n x → r ≡ valued s how x
   value-row n e h = rw e h
 
-  pub value-last : (how ≡ 1 → ⊥) → (how ≡ 2 → ⊥) → (how ≡ 3 → ⊥) → (how ≡ 4 → ⊥) → (how ≡ 5 → ⊥) → r ≡ named s Attributes x → r ≡ valued s how x
+  pub value-last : (how ≡ 1 → ⊥) → (how ≡ 2 → ⊥) → (how ≡ 3 → ⊥) → (how ≡ 4 → ⊥) → (how ≡ 5 → ⊥) → (how ≡ 6 → ⊥) → r ≡ named s Attributes x → r ≡ valued s how x
   unfolding valued pick
-  value-last a b c d e f = rw (ne-eqb _ _ a, ne-eqb _ _ b, ne-eqb _ _ c, ne-eqb _ _ d, ne-eqb _ _ e) f
+  value-last a b c d e f h = rw (ne-eqb _ _ a, ne-eqb _ _ b, ne-eqb _ _ c, ne-eqb _ _ d, ne-eqb _ _ e, ne-eqb _ _ f) h
 
 module _ (s : Sentence) (word i how : ℕ) (g : Given) where
   pub slot-none : how ≡ 0 → s ≡ slot s word i how g

@@ -50,8 +50,8 @@ pub struct Given {
     pub x5: u64,
 }
 
-// How an argument is told: not at all, by its word alone, or behind its word in decimal digits, in hexadecimal digits, as so
-// many pages, as so many bytes, or as attributes.
+// How an argument is told: not at all, by its word alone, or behind its word in decimal digits, as an address, as a value, as
+// so many pages, as so many bytes, or as attributes.
 const NONE: u64 = 0;
 
 const ALONE: u64 = 1;
@@ -60,11 +60,13 @@ const DECIMAL: u64 = 2;
 
 const HEX: u64 = 3;
 
-const AS_PAGES: u64 = 4;
+const VALUE: u64 = 4;
 
-const AS_BYTES: u64 = 5;
+const AS_PAGES: u64 = 5;
 
-const AS_ATTRS: u64 = 6;
+const AS_BYTES: u64 = 6;
+
+const AS_ATTRS: u64 = 7;
 
 // How many rows there are before that of all other calls.
 const ROWS: usize = 20;
@@ -109,7 +111,7 @@ const FORMS: [[u64; 15]; ROWS + 1] = [
         HEX,
         CONTEXT,
         3,
-        HEX,
+        VALUE,
         0,
         0,
         0,
@@ -126,7 +128,7 @@ const FORMS: [[u64; 15]; ROWS + 1] = [
         HEX,
         CONTEXT,
         3,
-        HEX,
+        VALUE,
         0,
         0,
         0,
@@ -197,33 +199,33 @@ const FORMS: [[u64; 15]; ROWS + 1] = [
     [
         FINISH,
         1,
-        HEX,
+        VALUE,
         BLANK,
         2,
-        HEX,
+        VALUE,
         BLANK,
         3,
-        HEX,
+        VALUE,
         BLANK,
         4,
-        HEX,
+        VALUE,
         BLANK,
         5,
-        HEX,
+        VALUE,
     ],
     [
         FINISH,
         1,
-        HEX,
+        VALUE,
         BLANK,
         2,
-        HEX,
+        VALUE,
         BLANK,
         3,
-        HEX,
+        VALUE,
         BLANK,
         4,
-        HEX,
+        VALUE,
         0,
         0,
         0,
@@ -234,13 +236,13 @@ const FORMS: [[u64; 15]; ROWS + 1] = [
         HEX,
         CONTEXT,
         1,
-        HEX,
+        VALUE,
         BLANK,
         2,
-        HEX,
+        VALUE,
         BLANK,
         3,
-        HEX,
+        VALUE,
         0,
         0,
         0,
@@ -335,6 +337,7 @@ fn value(s: Sentence, how: u64, x: u64) -> Sentence
         ALONE => s,
         DECIMAL => s.with(Piece::Number(x)),
         HEX => s.with(Piece::Hex(x)),
+        VALUE => s.with(Piece::Value(x)),
         AS_PAGES => count(s, x, w::PAGE, w::PAGES),
         AS_BYTES => count(s, x, w::BYTE, w::BYTES),
         _ => name(s, Known::Attributes, x),

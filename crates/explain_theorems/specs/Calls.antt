@@ -14,7 +14,7 @@ use Rattle.writing.specs.Decimal.{inDecimal}
 use Rattle.writing.specs.Put.{row, blanks}
 use Rattle.words.specs.Words.{words, wordText}
 use Rattle.phrases.specs.Sentence.{pieceOf, blank, _▹_}
-use Rattle.phrases.specs.Text.{hexText, extended, upto, textOf}
+use Rattle.phrases.specs.Text.{hexText, valueText, extended, upto, textOf}
 use Rattle.asking.specs.Names.{namedFrom, counted}
 use Rattle.asking.specs.Forms.{forms, keyAt, rowAt, isForm, form, register, valued, slot, slots, asked}
 
@@ -33,8 +33,8 @@ pub each-call :
     ∷ (0x80000001 ∷ 0x84000000 ∷ [], "tell whether this call is known: 84000000")
     ∷ (0x84000000 ∷ [], "tell the version of core power")
     ∷ (0x84000002 ∷ [], "turn this core OFF")
-    ∷ (0x84000003 ∷ 1 ∷ 0x80001000 ∷ 7 ∷ [], "start core 1 at 80001000 with 00000007")
-    ∷ (0xc4000003 ∷ 2 ∷ 0x80001000 ∷ 7 ∷ [], "start core 2 at 80001000 with 00000007")
+    ∷ (0x84000003 ∷ 1 ∷ 0x80001000 ∷ 7 ∷ [], "start core 1 at 80001000 with 07")
+    ∷ (0xc4000003 ∷ 2 ∷ 0x80001000 ∷ 7 ∷ [], "start core 2 at 80001000 with 07")
     ∷ (0x84000004 ∷ 1 ∷ 0 ∷ [], "tell the state of core 1 at level 0")
     ∷ (0xc4000004 ∷ 2 ∷ 1 ∷ [], "tell the state of core 2 at level 1")
     ∷ (0x8400000a ∷ 0xc4000003 ∷ [], "tell whether core power knows c4000003")
@@ -50,23 +50,23 @@ pub each-call :
     ∷ (0xc2000021 ∷ 0x1000 ∷ 8192 ∷ [], "unmap 00001000, 8192 bytes")
     ∷ (0xc2000022 ∷ 0x20010 ∷ [], "tell where this address leads: 00020010")
     ∷ (0xc2000030 ∷ [], "count the cores that are ON")
-    ∷ (0xc400018f ∷ 1 ∷ 2 ∷ 3 ∷ 4 ∷ 5 ∷ 6 ∷ [], "finish with 00000001 00000002 00000003 00000004 00000005")
-    ∷ (0xf2000000 ∷ 0x1c ∷ 1 ∷ 2 ∷ 3 ∷ 4 ∷ [], "finish with 0000001c 00000001 00000002 00000003")
-    ∷ (0xc4000150 ∷ 5 ∷ 6 ∷ 7 ∷ 8 ∷ [], "call c4000150 with 00000005 00000006 00000007")
-    ∷ (0 ∷ 1 ∷ [], "call 00000000 with 00000001 00000000 00000000")
+    ∷ (0xc400018f ∷ 1 ∷ 2 ∷ 3 ∷ 4 ∷ 5 ∷ 6 ∷ [], "finish with 01 02 03 04 05")
+    ∷ (0xf2000000 ∷ 0x1c ∷ 1 ∷ 2 ∷ 3 ∷ 4 ∷ [], "finish with 1c 01 02 03")
+    ∷ (0xc4000150 ∷ 5 ∷ 6 ∷ 7 ∷ 8 ∷ [], "call c4000150 with 05 06 07")
+    ∷ (0 ∷ 1 ∷ [], "call 00000000 with 01 00 00")
     ∷ []
     )
-unfolding asked slots slot valued register form isForm keyAt rowAt forms first namedFrom counted textOf upto extended pieceOf _▹_ hexText blanks row wordText words inDecimal inHex signOf argsOf argument parts keyOf identifierOf pick
+unfolding asked slots slot valued register form isForm keyAt rowAt forms first namedFrom counted textOf upto extended pieceOf _▹_ hexText valueText blanks row wordText words inDecimal inHex signOf argsOf argument parts keyOf identifierOf pick
 each-call = refl
 
 -- calls that were handed over, whatever their number
 pub each-handed :
     Right true
     (
-    (0xc2000010 ∷ 0x80038000 ∷ 4 ∷ [], "call c2000010 with 80038000 00000004 00000000")
-    ∷ (0x84000002 ∷ [], "call 84000002 with 00000000 00000000 00000000")
-    ∷ (0xc400018f ∷ 1 ∷ 2 ∷ 3 ∷ 4 ∷ 5 ∷ [], "call c400018f with 00000001 00000002 00000003")
+    (0xc2000010 ∷ 0x80038000 ∷ 4 ∷ [], "call c2000010 with 80038000 04 00")
+    ∷ (0x84000002 ∷ [], "call 84000002 with 00 00 00")
+    ∷ (0xc400018f ∷ 1 ∷ 2 ∷ 3 ∷ 4 ∷ 5 ∷ [], "call c400018f with 01 02 03")
     ∷ []
     )
-unfolding asked slots slot valued register form isForm keyAt rowAt forms first namedFrom counted textOf upto extended pieceOf _▹_ hexText blanks row wordText words inDecimal inHex signOf argsOf argument parts keyOf identifierOf pick
+unfolding asked slots slot valued register form isForm keyAt rowAt forms first namedFrom counted textOf upto extended pieceOf _▹_ hexText valueText blanks row wordText words inDecimal inHex signOf argsOf argument parts keyOf identifierOf pick
 each-handed = refl

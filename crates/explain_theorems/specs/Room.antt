@@ -17,7 +17,7 @@ use Rattle.outcomes.specs.declared.Came.{Came}
 use Rattle.outcomes.specs.declared.Came.the-variants.{Told, Called}
 use Rattle.phrases.specs.Sentence.{most, blank, _▹_}
 use Rattle.phrases.specs.declared.Piece.{Piece}
-use Rattle.phrases.specs.declared.Piece.the-variants.{Word, Number, Hex, Column}
+use Rattle.phrases.specs.declared.Piece.the-variants.{Word, Number, Hex, Value, Column}
 use Rattle.phrases.specs.declared.Sentence.{Sentence}
 use Rattle.asking.specs.Names.{namedFrom, named, counted}
 use Rattle.asking.specs.Forms.{forms, rowAt, form, register, valued, slot, slots, asked}
@@ -59,7 +59,7 @@ things n s x one′ many h = one (suc n) _ _ (one n s _ h)
 -- ---- what a call asks
 -- how many pieces an argument takes that is told so
 unfoldable weight : ℕ → ℕ
-weight how = pick (eqb how 0) 0 (pick (eqb how 1) 1 (pick (eqb how 2) 2 (pick (eqb how 3) 2 3)))
+weight how = pick (eqb how 0) 0 (pick (eqb how 1) 1 (pick (eqb how 2) 2 (pick (eqb how 3) 2 (pick (eqb how 4) 2 3))))
 
 slot-has : (n : ℕ) (s : Sentence) (word i how : ℕ) (g : Given) → Has n s → Has (n + weight how) (slot s word i how g)
 unfolding slot valued weight
@@ -76,9 +76,10 @@ slot-has n s word i how g h =
     (λ y. chosen-two P (eqb how 1) _ _ _ _ (λ y. rw z1 u)
     (λ y. chosen-two P (eqb how 2) _ _ _ _ (λ y. rw z2 (one (suc n) t (Number x) u))
     (λ y. chosen-two P (eqb how 3) _ _ _ _ (λ y. rw z2 (one (suc n) t (Hex x) u))
+    (λ y. chosen-two P (eqb how 4) _ _ _ _ (λ y. rw z2 (one (suc n) t (Value x) u))
     (λ y. rw z3
-    (chosen (Has (suc (suc (suc n)))) (eqb how 4) _ _ (λ y. things (suc n) t x _ _ u)
-    (λ y. chosen (Has (suc (suc (suc n)))) (eqb how 5) _ _ (λ y. things (suc n) t x _ _ u) (λ y. name (suc n) t Attributes x u)))))))
+    (chosen (Has (suc (suc (suc n)))) (eqb how 5) _ _ (λ y. things (suc n) t x _ _ u)
+    (λ y. chosen (Has (suc (suc (suc n)))) (eqb how 6) _ _ (λ y. things (suc n) t x _ _ u) (λ y. name (suc n) t Attributes x u))))))))
 
 -- all arguments of a row
 unfoldable heavy : List ℕ → ℕ
@@ -135,7 +136,7 @@ answer-has n s (Answer.No r) done now h = within (suc (suc (suc (suc n)))) (n + 
 
 came-has : (n : ℕ) (s : Sentence) (accepted range clash done : ℕ) (c : Came) (now : ℕ) → Has n s → Has (n + 6) (cameSaid s accepted range clash done c now)
 came-has n s accepted range clash done (Told why) now h = within (suc (suc n)) (n + 6) _ (one (suc n) _ _ (one n s _ h)) (omega arith)
-came-has n s accepted range clash done (Called made) now h = within (suc n + 5) (n + 6) _ (answer-has (suc n) (s ▹ Column 70) (made .answer) done now (one n s _ h)) (omega arith)
+came-has n s accepted range clash done (Called made) now h = within (suc n + 5) (n + 6) _ (answer-has (suc n) (s ▹ Column 72) (made .answer) done now (one n s _ h)) (omega arith)
 
 -- ---- a sentence
 none : Has 0 blank

@@ -6,7 +6,7 @@ use Prim.Native.Nat.{ℕ, zero, suc, _+_, _-_, _/_, _%_, _<_}
 use Prim.Native.String.{String}
 use native.Mathlib.Omega.{arith}
 use lib.Dec.{ltb, eqb}
-use lib.ListN.{length, getD, take}
+use lib.ListN.{getD, take}
 use borrow.Author.Tests.{ne-eqb}
 use Rattle.rules.specs.Choice.{pick, chosen, neither, not-first, not-second}
 use Rattle.hex.specs.Hex.{signOf, inHex}
@@ -18,9 +18,9 @@ use Rattle.writing.specs.Decimal.{inDecimal, decimalText}
 use Rattle.writing.specs.Put.{row, blanks}
 use Rattle.words.specs.Words.{words, wordText}
 use Rattle.phrases.specs.Sentence.{most, pieceAt}
-use Rattle.phrases.specs.Text.{indent, rightText, hexText, gapText, pieceText, extended, upto, textOf}
+use Rattle.phrases.specs.Text.{indent, rightText, hexText, valueText, gapText, pieceText, extended, upto, textOf}
 use Rattle.phrases.specs.declared.Piece.{Piece}
-use Rattle.phrases.specs.declared.Piece.the-variants.{Word, Number, Right, Hex, Column}
+use Rattle.phrases.specs.declared.Piece.the-variants.{Word, Number, Right, Line, Hex, Value, Column}
 use Rattle.phrases.specs.declared.Sentence.{Sentence}
 
 -- a text with no newline
@@ -89,21 +89,31 @@ unfolding wordText
 word-whole k = whole-at words k words-whole
 
 -- ---- a piece, and a sentence
+right-whole : (less x : ℕ) → Whole (rightText less x)
+unfolding rightText
+right-whole less x = both-whole (blanks (indent x - less)) (decimalText x) (blanks-whole (indent x - less)) (decimal-whole 20 x)
+
+address-whole : (x : ℕ) → Whole (hexText x)
+unfolding hexText
+address-whole x = chosen Whole (ltb x 0x100000000) _ _ (λ y. hex-whole 8 x) (λ n. chosen Whole (ltb x 0x1000000000000) _ _ (λ y. hex-whole 12 x) (λ m. hex-whole 16 x))
+
 piece-whole : (w : ℕ) (p : Piece) → Whole (pieceText w p)
-unfolding rightText hexText gapText
+unfolding valueText gapText
 piece-whole w (Word k) = word-whole k
 piece-whole w (Number x) = decimal-whole 20 x
-piece-whole w (Right x) = both-whole (blanks (indent x)) (decimalText x) (blanks-whole (indent x)) (decimal-whole 20 x)
-piece-whole w (Hex x) = chosen Whole (ltb x 0x100000000) _ _ (λ y. hex-whole 8 x) (λ n. chosen Whole (ltb x 0x1000000000000) _ _ (λ y. hex-whole 12 x) (λ m. hex-whole 16 x))
+piece-whole w (Right x) = right-whole 2 x
+piece-whole w (Line x) = right-whole 0 x
+piece-whole w (Hex x) = address-whole x
+piece-whole w (Value x) = chosen Whole (ltb x 0x100) _ _ (λ y. hex-whole 2 x) (λ n. chosen Whole (ltb x 0x10000) _ _ (λ y. hex-whole 4 x) (λ m. address-whole x))
 piece-whole w (Column c) = blanks-whole (pick (ltb w c) (c - w) 1)
 
-upto-whole : (s : Sentence) (i : ℕ) → Whole (upto s i)
+upto-whole : (s : Sentence) (i : ℕ) → Whole (upto s i .0)
 unfolding upto extended broken
 upto-whole s zero = refl
-upto-whole s (suc i) = both-whole (upto s i) (pieceText (length (upto s i)) (pieceAt s i)) (upto-whole s i) (piece-whole (length (upto s i)) (pieceAt s i))
+upto-whole s (suc i) = both-whole (upto s i .0) (pieceText (upto s i .1) (pieceAt s i)) (upto-whole s i) (piece-whole (upto s i .1) (pieceAt s i))
 
 pub text-unbroken : (s : Sentence) → Unbroken (textOf s)
 unfolding textOf
 text-unbroken s =
-    let t = upto s (pick (ltb (s .count) most) (s .count) most) in
+    let t = upto s (pick (ltb (s .count) most) (s .count) most) .0 in
     rw (all-unfinished t (upto-whole s (pick (ltb (s .count) most) (s .count) most))) at (unfinished-so t)

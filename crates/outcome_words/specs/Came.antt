@@ -74,8 +74,8 @@ answered s (Answer.No r) done now = s ▹ Word w.minus ▹ Number (minus r) ▹ 
 
 -- what came of a frame, in its column
 abbrev pub cameSaid : Sentence → ℕ → ℕ → ℕ → ℕ → Came → ℕ → Sentence
-cameSaid s accepted range clash done (Told why) now = s ▹ Column 70 ▹ Word (statusWord why accepted range clash)
-cameSaid s accepted range clash done (Called made) now = answered (s ▹ Column 70) (made .answer) done now
+cameSaid s accepted range clash done (Told why) now = s ▹ Column 72 ▹ Word (statusWord why accepted range clash)
+cameSaid s accepted range clash done (Called made) now = answered (s ▹ Column 72) (made .answer) done now
 
 -- ---- a call that was handed over: nothing is answered, and another world than Normal runs then
 abbrev pub isSilent : Answer → Bool
@@ -116,7 +116,7 @@ module _ (s r : Sentence) where
 
 pub ruleset answers = (owns-yes, owns-no, turn-off, turn-to, answer-by)
 
-module _ (s t r : Sentence) (accepted range clash done : ℕ) (came : Came) (now : ℕ) (e : t ≡ (s ▹ Column 70)) where
+module _ (s t r : Sentence) (accepted range clash done : ℕ) (came : Came) (now : ℕ) (e : t ≡ (s ▹ Column 72)) where
   pub came-told : (why : Status) (k : ℕ) → came ≡ Told why → k ≡ statusWord why accepted range clash → r ≡ (t ▹ Word k) → r ≡ cameSaid s accepted range clash done came now
   came-told why k c f h = rw (c, ← e, ← f) h
 

@@ -12,7 +12,7 @@ use rules::Reason;
 use words::names as w;
 
 // The column of what came of it.
-const CAME: u64 = 70;
+const CAME: u64 = 72;
 
 // What stands for the world that runs on a core that is OFF.
 const NO_WORLD: u64 = 255;

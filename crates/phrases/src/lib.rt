@@ -1,10 +1,10 @@
 // Sentences: short rows of pieces by value, and the line of text that each makes.
 ghost use mathlib.Core.Path.{_≡_};
-ghost use Prim.Native.Nat.{_+_, _≤_};
+ghost use Prim.Native.Nat.{_+_, _-_, _≤_};
 ghost use lib.ListN.{length};
 ghost use Rattle.tools.specs.Laid.{put};
 ghost use Rattle.phrases.specs.Sentence.{kindOf, valueOf, pieceOf, blank, _▹_};
-ghost use Rattle.phrases.specs.Text.{indent, rightText, hexText, gapText, pieceText, textOf, lineText, told};
+ghost use Rattle.phrases.specs.Text.{indent, rightText, hexText, valueText, gapText, pieceText, inColumns, textOf, lineText, told};
 
 // A piece of a sentence.
 pub enum Piece {
@@ -14,8 +14,12 @@ pub enum Piece {
     Number(u64),
     // the same, with blanks in front of it up to four signs
     Right(u64),
-    // a number in hexadecimal digits: eight, or twelve or sixteen where it needs more
+    // the number of a line, with blanks in front of it up to six signs; columns are counted as if it had six
+    Line(u64),
+    // an address in hexadecimal digits: eight, or twelve or sixteen where it needs more
     Hex(u64),
+    // a value in hexadecimal digits: two or four, or those of an address where it needs more
+    Value(u64),
     // blanks up to this column of the line, and at least one
     Column(u64),
 }
@@ -41,8 +45,10 @@ fn kind_of(p: Piece) -> u64
         Piece::Word(_) => 0,
         Piece::Number(_) => 1,
         Piece::Right(_) => 2,
-        Piece::Hex(_) => 3,
-        Piece::Column(_) => 4,
+        Piece::Line(_) => 3,
+        Piece::Hex(_) => 4,
+        Piece::Value(_) => 5,
+        Piece::Column(_) => 6,
     }
 }
 
@@ -53,7 +59,9 @@ fn value_of(p: Piece) -> u64
         Piece::Word(x) => x,
         Piece::Number(x) => x,
         Piece::Right(x) => x,
+        Piece::Line(x) => x,
         Piece::Hex(x) => x,
+        Piece::Value(x) => x,
         Piece::Column(x) => x,
     }
 }
@@ -65,7 +73,9 @@ fn piece_of(kind: u64, value: u64) -> Piece
         0 => Piece::Word(value),
         1 => Piece::Number(value),
         2 => Piece::Right(value),
-        3 => Piece::Hex(value),
+        3 => Piece::Line(value),
+        4 => Piece::Hex(value),
+        5 => Piece::Value(value),
         _ => Piece::Column(value),
     }
 }
@@ -98,27 +108,43 @@ impl Sentence {
     }
 }
 
-// How many blanks stand before a number that takes four signs or more.
+// How many blanks stand before a number that takes six signs or more.
 fn indent(x: u64) -> usize
     ensures { λ r. ⌜ r ≡ indent x ⌝ }
 {
     if x < 10 {
-        return 3;
+        return 5;
     }
     if x < 100 {
-        return 2;
+        return 4;
     }
     if x < 1000 {
+        return 3;
+    }
+    if x < 10000 {
+        return 2;
+    }
+    if x < 100000 {
         return 1;
     }
     0
 }
 
-fn put_right(out: &mut [u8], at: usize, x: u64) -> usize
-    requires { ⌜ at + 96 ≤ length (now out) ⌝ }
-    ensures { λ r. ⌜ (r, now (out .exit)) ≡ put (now (out .entry)) at (rightText x) ⌝ }
+// The same, where it takes so many signs fewer.
+fn fewer(blanks: usize, less: usize) -> usize
+    ensures { λ r. ⌜ r ≡ blanks - less ⌝ }
 {
-    let a = writing::put_blanks(out, at, indent(x));
+    if blanks < less {
+        return 0;
+    }
+    blanks - less
+}
+
+fn put_right(out: &mut [u8], at: usize, less: usize, x: u64) -> usize
+    requires { ⌜ at + 96 ≤ length (now out) ⌝ }
+    ensures { λ r. ⌜ (r, now (out .exit)) ≡ put (now (out .entry)) at (rightText less x) ⌝ }
+{
+    let a = writing::put_blanks(out, at, fewer(indent(x), less));
     writing::put_decimal(out, a, x)
 }
 
@@ -135,6 +161,19 @@ pub fn put_hex(out: &mut [u8], at: usize, x: u64) -> usize
     hex_write::put_digits(out, at, 16, x)
 }
 
+// A value in two or four digits, or in those of an address where it needs more.
+fn put_value(out: &mut [u8], at: usize, x: u64) -> usize
+    ensures { λ r. ⌜ (r, now (out .exit)) ≡ put (now (out .entry)) at (valueText x) ⌝ }
+{
+    if x < 0x100 {
+        return hex_write::put_digits(out, at, 2, x);
+    }
+    if x < 0x10000 {
+        return hex_write::put_digits(out, at, 4, x);
+    }
+    put_hex(out, at, x)
+}
+
 fn put_gap(out: &mut [u8], at: usize, width: usize, column: u64) -> usize
     ensures { λ r. ⌜ (r, now (out .exit)) ≡ put (now (out .entry)) at (gapText width column) ⌝ }
 {
@@ -145,7 +184,7 @@ fn put_gap(out: &mut [u8], at: usize, width: usize, column: u64) -> usize
     writing::put_blanks(out, at, 1)
 }
 
-// A piece, behind a line of so many signs.
+// A piece, behind so many signs that count for the columns.
 fn put_piece(out: &mut [u8], at: usize, width: usize, p: Piece) -> usize
     requires { ⌜ at + 96 ≤ length (now out) ⌝ }
     ensures { λ r. ⌜ (r, now (out .exit)) ≡ put (now (out .entry)) at (pieceText width p) ⌝ }
@@ -153,9 +192,26 @@ fn put_piece(out: &mut [u8], at: usize, width: usize, p: Piece) -> usize
     match p {
         Piece::Word(k) => words::put_word(out, at, k),
         Piece::Number(x) => writing::put_decimal(out, at, x),
-        Piece::Right(x) => put_right(out, at, x),
+        Piece::Right(x) => put_right(out, at, 2, x),
+        Piece::Line(x) => put_right(out, at, 0, x),
         Piece::Hex(x) => put_hex(out, at, x),
+        Piece::Value(x) => put_value(out, at, x),
         Piece::Column(c) => put_gap(out, at, width, c),
+    }
+}
+
+// How many signs of a piece of so many count for the columns behind it: of the number of a line six.
+fn in_columns(p: Piece, signs: usize) -> usize
+    ensures { λ r. ⌜ r ≡ inColumns p signs ⌝ }
+{
+    match p {
+        Piece::Word(_) => signs,
+        Piece::Number(_) => signs,
+        Piece::Right(_) => signs,
+        Piece::Line(_) => 6,
+        Piece::Hex(_) => signs,
+        Piece::Value(_) => signs,
+        Piece::Column(_) => signs,
     }
 }
 
@@ -166,13 +222,16 @@ fn put_pieces(out: &mut [u8], at: usize, s: Sentence) -> usize
 {
     let n = s.count as usize;
     let mut here = at;
+    let mut width: usize = 0;
     let mut i: usize = 0;
     while i < PIECES {
         if n <= i {
             return here;
         }
         let p = piece_of(s.kinds[i], s.values[i]);
-        here = put_piece(out, here, here - at, p);
+        let next = put_piece(out, here, width, p);
+        width += in_columns(p, next - here);
+        here = next;
         i += 1;
     }
     here

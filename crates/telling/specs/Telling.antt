@@ -12,7 +12,7 @@ use Rattle.outcomes.specs.declared.Came.the-variants.{Told, Called}
 use Rattle.calls.specs.declared.Made.{Made}
 use Rattle.words.specs.Words as w
 use Rattle.phrases.specs.Sentence.{blank, _▹_}
-use Rattle.phrases.specs.declared.Piece.the-variants.{Word, Number, Right, Hex, Column}
+use Rattle.phrases.specs.declared.Piece.the-variants.{Word, Number, Line, Hex, Column}
 use Rattle.phrases.specs.declared.Sentence.{Sentence}
 use Rattle.asking.specs.Names.{named, counted}
 use Rattle.asking.specs.Forms.{asked, doneWord}
@@ -21,11 +21,11 @@ use Rattle.outcome_words.specs.Came.{cameSaid, handed}
 
 -- the number of the line
 abbrev pub opening : ℕ → Sentence
-opening n = blank ▹ Right n ▹ Column 5
+opening n = blank ▹ Line n ▹ Column 7
 
 -- ---- set-up
 abbrev pub setupLine : ℕ → Sentence
-setupLine n = opening n ▹ Word w.setup ▹ Column 20
+setupLine n = opening n ▹ Word w.setup ▹ Column 22
 
 -- the window and the cores
 abbrev pub siteAsked : ℕ → ℕ → ℕ → ℕ → Sentence
@@ -45,11 +45,11 @@ onCore n core = opening n ▹ Word w.core ▹ Number core
 
 -- who calls: a world, where the call was accepted
 abbrev pub speaker : ℕ → ℕ → Came → Sentence
-speaker n core (Told why) = onCore n core ▹ Column 20
-speaker n core (Called made) = named (onCore n core ▹ Column 12) World (made .caller) ▹ Word w.colon ▹ Column 20
+speaker n core (Told why) = onCore n core ▹ Column 22
+speaker n core (Called made) = named (onCore n core ▹ Column 14) World (made .caller) ▹ Word w.colon ▹ Column 22
 
 abbrev pub arrivalSaid : ℕ → ℕ → Sentence
-arrivalSaid n core = onCore n core ▹ Column 20 ▹ Word w.arrives
+arrivalSaid n core = onCore n core ▹ Column 22 ▹ Word w.arrives
 
 -- ---- no frame: what the line is
 abbrev pub lineOf : Status → ℕ
@@ -61,7 +61,7 @@ lineOf OutOfRange = w.noKind
 lineOf Clash = w.noKind
 
 abbrev pub noFrame : ℕ → Status → Sentence
-noFrame n why = opening n ▹ Word w.noFrame ▹ Column 20 ▹ Word (lineOf why)
+noFrame n why = opening n ▹ Word w.noFrame ▹ Column 22 ▹ Word (lineOf why)
 
 -- ---- any line
 unfoldable pub sentenceOf : ℕ → Frame → List ℕ → Came → ℕ → Sentence
@@ -74,13 +74,13 @@ sentenceOf n (Frame.Refused why) xs came now = cameSaid (noFrame n why) w.accept
 
 -- ---- how the code's branches meet these
 module _ (n core : ℕ) (came : Came) (s r : Sentence) (e : s ≡ onCore n core) where
-  pub speaks-nobody : (why : Status) → came ≡ Told why → r ≡ (s ▹ Column 20) → r ≡ speaker n core came
+  pub speaks-nobody : (why : Status) → came ≡ Told why → r ≡ (s ▹ Column 22) → r ≡ speaker n core came
   speaks-nobody why c h = rw (c, ← e) h
 
-  pub speaks-world : (made : Made) (t u v : Sentence) → came ≡ Called made → t ≡ (s ▹ Column 12) → u ≡ named t World (made .caller) → v ≡ (u ▹ Word w.colon) → r ≡ (v ▹ Column 20) → r ≡ speaker n core came
+  pub speaks-world : (made : Made) (t u v : Sentence) → came ≡ Called made → t ≡ (s ▹ Column 14) → u ≡ named t World (made .caller) → v ≡ (u ▹ Word w.colon) → r ≡ (v ▹ Column 22) → r ≡ speaker n core came
   speaks-world made t u v c f g h i = rw (c, ← e, ← f, ← g, ← h) i
 
-pub no-frame-by : (n : ℕ) (why : Status) (s t r : Sentence) (k : ℕ) → s ≡ (opening n ▹ Word w.noFrame ▹ Column 20) → k ≡ lineOf why → r ≡ (s ▹ Word k) → r ≡ noFrame n why
+pub no-frame-by : (n : ℕ) (why : Status) (s t r : Sentence) (k : ℕ) → s ≡ (opening n ▹ Word w.noFrame ▹ Column 22) → k ≡ lineOf why → r ≡ (s ▹ Word k) → r ≡ noFrame n why
 no-frame-by n why s t r k e f h = rw (f, e) at h
 
 module _ (n : ℕ) (f : Frame) (xs : List ℕ) (came : Came) (now : ℕ) (s r : Sentence) where

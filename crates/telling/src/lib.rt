@@ -12,18 +12,18 @@ use phrases::Sentence;
 use words::names as w;
 
 // The columns: who speaks, which world, and what is asked.
-const WHO: u64 = 5;
+const WHO: u64 = 7;
 
-const WORLD: u64 = 12;
+const WORLD: u64 = 14;
 
-const ASKED: u64 = 20;
+const ASKED: u64 = 22;
 
 // The number of the line.
 fn opening(n: u64) -> Sentence
     ensures { λ s. ⌜ s ≡ opening n ⌝ }
 {
     Sentence::blank()
-        .with(Piece::Right(n))
+        .with(Piece::Line(n))
         .with(Piece::Column(WHO))
 }
 

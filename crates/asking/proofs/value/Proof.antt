@@ -11,6 +11,9 @@ with-requires c κs = search needs
 with-requires-2 : tie.Need-with-requires-2
 with-requires-2 c κs = search needs
 
+with-requires-3 : tie.Need-with-requires-3
+with-requires-3 c κs = search needs
+
 count-requires : tie.Need-count-requires
 count-requires c κs = search needs
 
@@ -41,7 +44,11 @@ unfolding valued pick
 returns-5 c = search (value-row, needs)
 
 returns-6 : tie.Need-returns-6
-returns-6 c = search (value-last, needs)
+unfolding valued pick
+returns-6 c = search (value-row, needs)
+
+returns-7 : tie.Need-returns-7
+returns-7 c = search (value-last, needs)
 
 pub value-spec : {M : Type 1} → statement M
 value-spec =
@@ -49,6 +56,7 @@ value-spec =
     (tie.spec
     with-requires
     with-requires-2
+    with-requires-3
     count-requires
     count-requires-2
     name-requires
@@ -57,4 +65,5 @@ value-spec =
     returns-3
     returns-4
     returns-5
-    returns-6)
+    returns-6
+    returns-7)

@@ -16,5 +16,11 @@ returns-3 c = search (indents, needs)
 returns-4 : tie.Need-returns-4
 returns-4 c = search (indents, needs)
 
+returns-5 : tie.Need-returns-5
+returns-5 c = search (indents, needs)
+
+returns-6 : tie.Need-returns-6
+returns-6 c = search (indents, needs)
+
 pub indent-spec : {M : Type 1} → statement M
-indent-spec = tie.close (tie.spec returns returns-2 returns-3 returns-4)
+indent-spec = tie.close (tie.spec returns returns-2 returns-3 returns-4 returns-5 returns-6)

@@ -22,7 +22,15 @@ unfolding pieceOf pick
 returns-4 c = search (piece-row, needs)
 
 returns-5 : tie.Need-returns-5
-returns-5 c = search (piece-last, needs)
+unfolding pieceOf pick
+returns-5 c = search (piece-row, needs)
+
+returns-6 : tie.Need-returns-6
+unfolding pieceOf pick
+returns-6 c = search (piece-row, needs)
+
+returns-7 : tie.Need-returns-7
+returns-7 c = search (piece-last, needs)
 
 pub piece-of-spec : {M : Type 1} → statement M
-piece-of-spec = tie.close (tie.spec returns returns-2 returns-3 returns-4 returns-5)
+piece-of-spec = tie.close (tie.spec returns returns-2 returns-3 returns-4 returns-5 returns-6 returns-7)

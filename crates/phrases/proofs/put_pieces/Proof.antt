@@ -1,16 +1,16 @@
 -- `put_pieces` meets its promise, since each pass puts one piece more behind those that stand there.
-use Prim.Native.Nat.{_+_, _-_, _≤_}
-use lib.ListN.{length}
-use Rattle.phrases.specs.Text.{Said, saying}
 use borrow.Author.Needs.{needs}
 use Rattle.phrases.proofs.put_pieces.Statement.{statement}
 use Rattle.phrases.proofs.put_pieces.Tie as tie
+use Prim.Native.Nat.{_+_, _-_, _≤_}
+use lib.ListN.{length}
+use Rattle.phrases.specs.Text.{Said, saying}
 
 abbrev Inv-loop : tie.InvT-loop
-Inv-loop out₀ at s n here₀ i₀ out here i = Said out₀ out s at here i × (at + 3072 ≤ length out₀)
+Inv-loop out₀ at s n here₀ width₀ i₀ out here width i = Said out₀ out s at here width i × (at + 3072 ≤ length out₀)
 
 abbrev μ-loop : tie.MeasureT-loop
-μ-loop out₀ at s n here₀ i₀ out here i = 32 - i
+μ-loop out₀ at s n here₀ width₀ i₀ out here width i = 32 - i
 
 loop-holds : tie.Need-loop-holds Inv-loop μ-loop
 loop-holds c = search (saying, needs)
@@ -36,11 +36,17 @@ element-copy-out-piece-of-2 c = search needs
 piece-of-requires : tie.Need-piece-of-requires Inv-loop μ-loop
 piece-of-requires c κs = search needs
 
-sub-put-piece : tie.Need-sub-put-piece Inv-loop μ-loop
-sub-put-piece c = search needs
-
 put-piece-requires : tie.Need-put-piece-requires Inv-loop μ-loop
 put-piece-requires c κs = search needs
+
+sub-in-columns : tie.Need-sub-in-columns Inv-loop μ-loop
+sub-in-columns c = search (saying, needs)
+
+in-columns-requires : tie.Need-in-columns-requires Inv-loop μ-loop
+in-columns-requires c κs = search needs
+
+add-width : tie.Need-add-width Inv-loop μ-loop
+add-width c = search (saying, needs)
 
 add-i : tie.Need-add-i Inv-loop μ-loop
 add-i c = search needs
@@ -71,8 +77,10 @@ put-pieces-spec =
     mul-piece-of-2
     element-copy-out-piece-of-2
     piece-of-requires
-    sub-put-piece
     put-piece-requires
+    sub-in-columns
+    in-columns-requires
+    add-width
     add-i
     loop-less
     loop-again
