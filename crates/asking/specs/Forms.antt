@@ -27,8 +27,8 @@ alone = 1
 abbrev inNumber : ℕ
 inNumber = 2
 
-abbrev inHex : ℕ
-inHex = 3
+abbrev asAddress : ℕ
+asAddress = 3
 
 abbrev asValue : ℕ
 asValue = 4
@@ -50,26 +50,26 @@ nothing n = replicate (n + n + n) 0
 unfoldable pub forms : List (ℕ × List ℕ)
 forms =
     (version, w.askCalls ∷ 0 ∷ alone ∷ nothing 4)
-    ∷ (features, w.askKnown ∷ 1 ∷ inHex ∷ nothing 4)
+    ∷ (features, w.askKnown ∷ 1 ∷ asAddress ∷ nothing 4)
     ∷ (powerVersion, w.askPower ∷ 0 ∷ alone ∷ nothing 4)
     ∷ (coreOff, w.turnOff ∷ 0 ∷ alone ∷ nothing 4)
-    ∷ (coreStart, w.start ∷ 1 ∷ inNumber ∷ w.at ∷ 2 ∷ inHex ∷ w.context ∷ 3 ∷ asValue ∷ nothing 2)
-    ∷ (coreStartWide, w.start ∷ 1 ∷ inNumber ∷ w.at ∷ 2 ∷ inHex ∷ w.context ∷ 3 ∷ asValue ∷ nothing 2)
+    ∷ (coreStart, w.start ∷ 1 ∷ inNumber ∷ w.at ∷ 2 ∷ asAddress ∷ w.context ∷ 3 ∷ asValue ∷ nothing 2)
+    ∷ (coreStartWide, w.start ∷ 1 ∷ inNumber ∷ w.at ∷ 2 ∷ asAddress ∷ w.context ∷ 3 ∷ asValue ∷ nothing 2)
     ∷ (coreState, w.askState ∷ 1 ∷ inNumber ∷ w.level ∷ 2 ∷ inNumber ∷ nothing 3)
     ∷ (coreStateWide, w.askState ∷ 1 ∷ inNumber ∷ w.level ∷ 2 ∷ inNumber ∷ nothing 3)
-    ∷ (powerFeatures, w.askPowers ∷ 1 ∷ inHex ∷ nothing 4)
-    ∷ (granuleToRealm, w.takePage ∷ 1 ∷ inHex ∷ nothing 4)
-    ∷ (granuleToNormal, w.givePage ∷ 1 ∷ inHex ∷ nothing 4)
-    ∷ (takePages, w.take ∷ 2 ∷ inPages ∷ w.from ∷ 1 ∷ inHex ∷ nothing 3)
-    ∷ (givePages, w.give ∷ 2 ∷ inPages ∷ w.from ∷ 1 ∷ inHex ∷ nothing 3)
-    ∷ (ownsPage, w.askOwner ∷ 1 ∷ inHex ∷ nothing 4)
-    ∷ (mapPages, w.map ∷ 1 ∷ inHex ∷ w.at ∷ 2 ∷ inHex ∷ w.comma ∷ 3 ∷ inBytes ∷ w.comma ∷ 4 ∷ asAttributes ∷ nothing 1)
-    ∷ (unmapPages, w.unmap ∷ 1 ∷ inHex ∷ w.comma ∷ 2 ∷ inBytes ∷ nothing 3)
-    ∷ (whereLeads, w.askWhere ∷ 1 ∷ inHex ∷ nothing 4)
+    ∷ (powerFeatures, w.askPowers ∷ 1 ∷ asAddress ∷ nothing 4)
+    ∷ (granuleToRealm, w.takePage ∷ 1 ∷ asAddress ∷ nothing 4)
+    ∷ (granuleToNormal, w.givePage ∷ 1 ∷ asAddress ∷ nothing 4)
+    ∷ (takePages, w.take ∷ 2 ∷ inPages ∷ w.from ∷ 1 ∷ asAddress ∷ nothing 3)
+    ∷ (givePages, w.give ∷ 2 ∷ inPages ∷ w.from ∷ 1 ∷ asAddress ∷ nothing 3)
+    ∷ (ownsPage, w.askOwner ∷ 1 ∷ asAddress ∷ nothing 4)
+    ∷ (mapPages, w.map ∷ 1 ∷ asAddress ∷ w.at ∷ 2 ∷ asAddress ∷ w.comma ∷ 3 ∷ inBytes ∷ w.comma ∷ 4 ∷ asAttributes ∷ nothing 1)
+    ∷ (unmapPages, w.unmap ∷ 1 ∷ asAddress ∷ w.comma ∷ 2 ∷ inBytes ∷ nothing 3)
+    ∷ (whereLeads, w.askWhere ∷ 1 ∷ asAddress ∷ nothing 4)
     ∷ (countOn, w.count ∷ 0 ∷ alone ∷ nothing 4)
     ∷ (realmFinish, w.finish ∷ 1 ∷ asValue ∷ w.blank ∷ 2 ∷ asValue ∷ w.blank ∷ 3 ∷ asValue ∷ w.blank ∷ 4 ∷ asValue ∷ w.blank ∷ 5 ∷ asValue ∷ [])
     ∷ (secureFinish, w.finish ∷ 1 ∷ asValue ∷ w.blank ∷ 2 ∷ asValue ∷ w.blank ∷ 3 ∷ asValue ∷ w.blank ∷ 4 ∷ asValue ∷ nothing 1)
-    ∷ (0, w.other ∷ 0 ∷ inHex ∷ w.context ∷ 1 ∷ asValue ∷ w.blank ∷ 2 ∷ asValue ∷ w.blank ∷ 3 ∷ asValue ∷ nothing 1)
+    ∷ (0, w.other ∷ 0 ∷ asAddress ∷ w.context ∷ 1 ∷ asValue ∷ w.blank ∷ 2 ∷ asValue ∷ w.blank ∷ 3 ∷ asValue ∷ nothing 1)
     ∷ []
 
 unfoldable pub keyAt : ℕ → ℕ
@@ -94,7 +94,7 @@ unfoldable pub valued : Sentence → ℕ → ℕ → Sentence
 valued s how x =
     pick (eqb how alone) s
     (pick (eqb how inNumber) (s ▹ Number x)
-    (pick (eqb how inHex) (s ▹ Hex x)
+    (pick (eqb how asAddress) (s ▹ Hex x)
     (pick (eqb how asValue) (s ▹ Value x)
     (pick (eqb how inPages) (counted s x w.page w.pages)
     (pick (eqb how inBytes) (counted s x w.byte w.bytes)
@@ -118,7 +118,7 @@ slots s r g =
 abbrev pub givenIn : Request → ℕ → Given
 givenIn q fifth = record { key = q .key; x1 = q .args .x1; x2 = q .args .x2; x3 = q .args .x3; x4 = q .args .x4; x5 = fifth }
 
--- what it asks: where it was handed over, by its number alone
+-- what it asks; where it was handed over, as a call that the table does not have
 unfoldable pub asked : Sentence → Bool → List ℕ → Sentence
 asked s handed xs = let q = requestOf xs in slots s (pick handed (rowAt 20) (form (q .key))) (givenIn q (getD xs 5 0))
 

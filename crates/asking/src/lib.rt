@@ -58,7 +58,7 @@ const ALONE: u64 = 1;
 
 const DECIMAL: u64 = 2;
 
-const HEX: u64 = 3;
+const ADDRESS: u64 = 3;
 
 const VALUE: u64 = 4;
 
@@ -99,7 +99,7 @@ const KEYS: [u64; ROWS + 1] = [
 // For each of up to five arguments its word, its register, and how it is told. Register 0 holds the key.
 const FORMS: [[u64; 15]; ROWS + 1] = [
     [ASK_CALLS, 0, ALONE, 0, 0, 0, 0, 0, 0, 0, 0, 0, 0, 0, 0],
-    [ASK_KNOWN, 1, HEX, 0, 0, 0, 0, 0, 0, 0, 0, 0, 0, 0, 0],
+    [ASK_KNOWN, 1, ADDRESS, 0, 0, 0, 0, 0, 0, 0, 0, 0, 0, 0, 0],
     [ASK_POWER, 0, ALONE, 0, 0, 0, 0, 0, 0, 0, 0, 0, 0, 0, 0],
     [TURN_OFF, 0, ALONE, 0, 0, 0, 0, 0, 0, 0, 0, 0, 0, 0, 0],
     [
@@ -108,7 +108,7 @@ const FORMS: [[u64; 15]; ROWS + 1] = [
         DECIMAL,
         AT,
         2,
-        HEX,
+        ADDRESS,
         CONTEXT,
         3,
         VALUE,
@@ -125,7 +125,7 @@ const FORMS: [[u64; 15]; ROWS + 1] = [
         DECIMAL,
         AT,
         2,
-        HEX,
+        ADDRESS,
         CONTEXT,
         3,
         VALUE,
@@ -170,19 +170,19 @@ const FORMS: [[u64; 15]; ROWS + 1] = [
         0,
         0,
     ],
-    [ASK_POWERS, 1, HEX, 0, 0, 0, 0, 0, 0, 0, 0, 0, 0, 0, 0],
-    [TAKE_PAGE, 1, HEX, 0, 0, 0, 0, 0, 0, 0, 0, 0, 0, 0, 0],
-    [GIVE_PAGE, 1, HEX, 0, 0, 0, 0, 0, 0, 0, 0, 0, 0, 0, 0],
-    [TAKE, 2, AS_PAGES, FROM, 1, HEX, 0, 0, 0, 0, 0, 0, 0, 0, 0],
-    [GIVE, 2, AS_PAGES, FROM, 1, HEX, 0, 0, 0, 0, 0, 0, 0, 0, 0],
-    [ASK_OWNER, 1, HEX, 0, 0, 0, 0, 0, 0, 0, 0, 0, 0, 0, 0],
+    [ASK_POWERS, 1, ADDRESS, 0, 0, 0, 0, 0, 0, 0, 0, 0, 0, 0, 0],
+    [TAKE_PAGE, 1, ADDRESS, 0, 0, 0, 0, 0, 0, 0, 0, 0, 0, 0, 0],
+    [GIVE_PAGE, 1, ADDRESS, 0, 0, 0, 0, 0, 0, 0, 0, 0, 0, 0, 0],
+    [TAKE, 2, AS_PAGES, FROM, 1, ADDRESS, 0, 0, 0, 0, 0, 0, 0, 0, 0],
+    [GIVE, 2, AS_PAGES, FROM, 1, ADDRESS, 0, 0, 0, 0, 0, 0, 0, 0, 0],
+    [ASK_OWNER, 1, ADDRESS, 0, 0, 0, 0, 0, 0, 0, 0, 0, 0, 0, 0],
     [
         MAP,
         1,
-        HEX,
+        ADDRESS,
         AT,
         2,
-        HEX,
+        ADDRESS,
         COMMA,
         3,
         AS_BYTES,
@@ -193,8 +193,8 @@ const FORMS: [[u64; 15]; ROWS + 1] = [
         0,
         0,
     ],
-    [UNMAP, 1, HEX, COMMA, 2, AS_BYTES, 0, 0, 0, 0, 0, 0, 0, 0, 0],
-    [ASK_WHERE, 1, HEX, 0, 0, 0, 0, 0, 0, 0, 0, 0, 0, 0, 0],
+    [UNMAP, 1, ADDRESS, COMMA, 2, AS_BYTES, 0, 0, 0, 0, 0, 0, 0, 0, 0],
+    [ASK_WHERE, 1, ADDRESS, 0, 0, 0, 0, 0, 0, 0, 0, 0, 0, 0, 0],
     [COUNT, 0, ALONE, 0, 0, 0, 0, 0, 0, 0, 0, 0, 0, 0, 0],
     [
         FINISH,
@@ -233,7 +233,7 @@ const FORMS: [[u64; 15]; ROWS + 1] = [
     [
         OTHER,
         0,
-        HEX,
+        ADDRESS,
         CONTEXT,
         1,
         VALUE,
@@ -336,7 +336,7 @@ fn value(s: Sentence, how: u64, x: u64) -> Sentence
     match how {
         ALONE => s,
         DECIMAL => s.with(Piece::Number(x)),
-        HEX => s.with(Piece::Hex(x)),
+        ADDRESS => s.with(Piece::Hex(x)),
         VALUE => s.with(Piece::Value(x)),
         AS_PAGES => count(s, x, w::PAGE, w::PAGES),
         AS_BYTES => count(s, x, w::BYTE, w::BYTES),
@@ -366,7 +366,7 @@ fn arguments(s: Sentence, row: [u64; 15], g: Given) -> Sentence
     argument(s4, row[12], row[13], row[14], g)
 }
 
-// What a call with these eight numbers asks: by its number alone where it was handed over, and else by the row of its key.
+// What a call with these eight numbers asks: by the row of its key, or where it was handed over by that of all other calls.
 pub fn ask(s: Sentence, handed: bool, x: &[u64; 8]) -> Sentence
     ensures { λ r. ⌜ r ≡ asked s handed (now (x .entry)) ⌝ }
 {

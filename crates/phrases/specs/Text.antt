@@ -86,7 +86,7 @@ longest = 3073
 unfoldable pub told : List ℕ → ℕ → List ℕ → ℕ × List ℕ
 told out at line = pick (leb (at + longest) (length out)) (at + length line, laid out at line) (at, out)
 
--- ---- no piece has more than 96 signs, and so no line more than that
+-- ---- no piece has more than 96 signs, and so a line has a most
 indent-few : (x : ℕ) → indent x ≤ 5
 unfolding indent
 indent-few x =

@@ -80,9 +80,6 @@ module _ (n core : ℕ) (came : Came) (s r : Sentence) (e : s ≡ onCore n core)
   pub speaks-world : (made : Made) (t u v : Sentence) → came ≡ Called made → t ≡ (s ▹ Column 14) → u ≡ named t World (made .caller) → v ≡ (u ▹ Word w.colon) → r ≡ (v ▹ Column 22) → r ≡ speaker n core came
   speaks-world made t u v c f g h i = rw (c, ← e, ← f, ← g, ← h) i
 
-pub no-frame-by : (n : ℕ) (why : Status) (s t r : Sentence) (k : ℕ) → s ≡ (opening n ▹ Word w.noFrame ▹ Column 22) → k ≡ lineOf why → r ≡ (s ▹ Word k) → r ≡ noFrame n why
-no-frame-by n why s t r k e f h = rw (f, e) at h
-
 module _ (n : ℕ) (f : Frame) (xs : List ℕ) (came : Came) (now : ℕ) (s r : Sentence) where
   pub tells-site : (base pages cores : ℕ) → f ≡ Frame.Site base pages cores → s ≡ siteAsked n base pages cores → r ≡ cameSaid s w.accepted w.outOfRange w.outOfRange w.granted came now → r ≡ sentenceOf n f xs came now
   unfolding sentenceOf
