@@ -1,4 +1,4 @@
 // The frame program on a stored run: every answer of every call, from each world.
 fn main() {
-    console::run();
+    console::run(true);
 }

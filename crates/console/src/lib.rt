@@ -1,4 +1,5 @@
-// The loop of reads and writes: standard input to standard output, each line answered as soon as it has been read.
+// The loop of reads and writes: standard input to standard output, each line answered as soon as it has been read, or to no
+// output at all, where only what the run leaves is asked for.
 ghost use mathlib.Core.Path.{_≡_};
 ghost use mathlib.Core.Bool.{true};
 ghost use Rattle.frames.specs.Frames.{onMachine};
@@ -14,9 +15,18 @@ use setup::Setup;
 use waiting::Input;
 use waiting::Output;
 
-// Reads until the input ends, or a write fails: whether the input ended. The count only has the loop end: no input needs so
-// many reads.
+// Writes so many answers, if it is loud: whether they could be written.
+fn pass_on(loud: bool, out: &[u8], n: usize) -> bool {
+    if loud {
+        return channels::write(out, n);
+    }
+    true
+}
+
+// Reads until the input ends, or a write fails: whether the input ended. The answers are laid in `out`, and written if it is
+// loud. The count only has the loop end: no input needs so many reads.
 fn serve(
+    loud: bool,
     buf: &mut Input,
     out: &mut Output,
     setup: &mut Setup,
@@ -48,7 +58,7 @@ fn serve(
             turns,
             lists,
         );
-        if !channels::write(out, due.put) {
+        if !pass_on(loud, out, due.put) {
             return false;
         }
         if n == kept {
@@ -60,15 +70,17 @@ fn serve(
     false
 }
 
-// Set-up at the end, and whether the input was read to its end, or to where it can be read no further, and answered.
+// Set-up and the mappings at the end, and whether the input was read to its end, or to where it can be read no further, and
+// answered.
 pub struct Served {
     pub setup: Setup,
+    pub lists: Lists,
     pub whole: bool,
 }
 
-// Answers standard input on standard output, from a machine as it is before the first frame.
-pub fn run() -> Served
-    ensures { λ r. ⌜ (r .whole ≡ true → Left (r .setup)) ⌝ }
+// Reads standard input, from a machine as it is before the first frame, and answers on standard output if it is loud.
+pub fn run(loud: bool) -> Served
+    ensures { λ r. ⌜ (r .whole ≡ true → Left (r .setup) (r .lists)) ⌝ }
 {
     let mut buf = io::large_buffer();
     let mut out = [0u8; 327751];
@@ -81,6 +93,7 @@ pub fn run() -> Served
     let mut turns = cores::fresh_turns();
     let mut lists = mapping::fresh();
     let whole = serve(
+        loud,
         &mut buf,
         &mut out,
         &mut setup,
@@ -92,5 +105,9 @@ pub fn run() -> Served
         &mut turns,
         &mut lists,
     );
-    Served { setup, whole }
+    Served {
+        setup,
+        lists,
+        whole,
+    }
 }

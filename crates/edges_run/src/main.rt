@@ -1,4 +1,4 @@
 // The frame program on a stored run: the cases of document 01 at the edges of its rules, and its easy errors.
 fn main() {
-    console::run();
+    console::run(true);
 }

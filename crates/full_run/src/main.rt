@@ -1,4 +1,4 @@
 // The frame program on a stored run: a full ledger.
 fn main() {
-    console::run();
+    console::run(true);
 }

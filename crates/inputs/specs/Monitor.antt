@@ -26,18 +26,19 @@ Ran m m′ = Loop.Ran turned reading m m′
 abbrev pub Serving : Machine → Machine → List ℕ → ℕ → Type 0
 Serving m₀ m s kept = Loop.Serving turned reading m₀ m s kept
 
--- set-up as an input leaves it
-pub record Left (s : List ℕ) : Type 0 where
+-- set-up and the mappings as an input leaves them
+pub record Left (s k : List ℕ) : Type 0 where
   pub input : List ℕ
-  pub is : s ≡ leftBy first input .setup
+  pub setup-is : s ≡ leftBy first input .setup
+  pub lists-are : k ≡ leftBy first input .lists
 
 -- from tables as they are before the first frame
 pub ran-left : (s n l o r p t k : List ℕ) (whole : Bool) (s′ n′ l′ o′ r′ p′ t′ k′ : List ℕ)
     → (whole ≡ true → Ran (machine s n l o r p t k) (machine s′ n′ l′ o′ r′ p′ t′ k′)) → whole ≡ true
-    → s ≡ unset → n ≡ unnamed → l ≡ empty → o ≡ unowned → r ≡ zeros → p ≡ firstPowers → t ≡ firstTurns → k ≡ unmapped → Left s′
+    → s ≡ unset → n ≡ unnamed → l ≡ empty → o ≡ unowned → r ≡ zeros → p ≡ firstPowers → t ≡ firstTurns → k ≡ unmapped → Left s′ k′
 ran-left s n l o r p t k whole s′ n′ l′ o′ r′ p′ t′ k′ ran y a b c d e f g h =
     let q : Ran first (machine s′ n′ l′ o′ r′ p′ t′ k′) = rw (a, b, c, d, e, f, g, h) at (ran y) in
-    record { input = q .input; is = ap (λ (m : Machine). m .setup) (q .is) }
+    record { input = q .input; setup-is = ap (λ (m : Machine). m .setup) (q .is); lists-are = ap (λ (m : Machine). m .lists) (q .is) }
 
 pub serving-none : (m : Machine) (s : List ℕ) → Serving m m s 0
 serving-none = Loop.serving-none turned reading

@@ -1,4 +1,4 @@
 // The frame program on a stored run: the smallest machine.
 fn main() {
-    console::run();
+    console::run(true);
 }

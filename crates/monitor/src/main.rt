@@ -1,4 +1,4 @@
 // The frame program: standard input to standard output. Run here on document 01's example.
 fn main() {
-    console::run();
+    console::run(true);
 }

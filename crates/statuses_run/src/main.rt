@@ -1,4 +1,4 @@
 // The frame program on a stored run: every status on both sides of its rule, in the largest machine.
 fn main() {
-    console::run();
+    console::run(true);
 }

@@ -6,7 +6,7 @@ use Prim.Native.Nat.{ℕ}
 use Rattle.mapping.specs.Lists.{held}
 use Rattle.frames.specs.Frames.{first}
 use Rattle.inputs.specs.Run.{leftBy}
-use Rattle.replay.specs.Replay.{Leaves}
+use Rattle.inputs.specs.Monitor.{Left}
 use Rattle.building.specs.Built.{built}
 use Rattle.building.specs.declared.Built.{Built}
 
@@ -16,8 +16,8 @@ pub record Makes (world : ℕ) (numbers : List ℕ) (said : Built) (left : List 
   pub is : (said, left) ≡ built (held (leftBy first input .lists) world) numbers
 
 pub made :
-    (lists : List ℕ) (world : ℕ) (numbers : List ℕ) (said : Built) (left : List ℕ) (whole : Bool) →
-    (whole ≡ true → Leaves lists) → (said, left) ≡ built (held lists world) numbers → whole ≡ true → Makes world numbers said left
-made lists world numbers said left whole f e y =
+    (setup lists : List ℕ) (world : ℕ) (numbers : List ℕ) (said : Built) (left : List ℕ) (whole : Bool) →
+    (whole ≡ true → Left setup lists) → (said, left) ≡ built (held lists world) numbers → whole ≡ true → Makes world numbers said left
+made setup lists world numbers said left whole f e y =
     let l = f y in
-    record { input = l .input; is = e ∙ ap (λ (t : List ℕ). built (held t world) numbers) (l .is) }
+    record { input = l .input; is = e ∙ ap (λ (t : List ℕ). built (held t world) numbers) (l .lists-are) }

@@ -24,7 +24,7 @@ pub struct Made {
 pub fn make(numbers: &mut [u64], world: u64) -> Made
     ensures { λ r. ⌜ (r .whole ≡ true → Makes world (now (numbers .entry)) (r .built) (now (numbers .exit))) ⌝ }
 {
-    let run = replay::run();
+    let run = console::run(false);
     let lists = run.lists;
     let built = building::build(numbers, &lists, world);
     Made {

@@ -1,4 +1,4 @@
 // The frame program on a stored run: Realm makes no call on its own mappings.
 fn main() {
-    console::run();
+    console::run(true);
 }

@@ -59,7 +59,7 @@ fn vet_first(numbers: &Numbers, n: usize, lists: &Lists, world: u64) {
 
 // Vets the n numbers in the bytes of a file.
 fn judge(bytes: &[u8], n: usize, world: u64) {
-    let run = replay::run();
+    let run = console::run(false);
     if !run.whole {
         say(b"vet: the run could not be read to its end\n");
         return;

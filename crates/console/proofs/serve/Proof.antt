@@ -1,3 +1,4 @@
+-- Each read goes on where the last one ended.
 use borrow.Author.Needs.{needs}
 use mathlib.Core.Path.{refl}
 use Rattle.rules.specs.Choice.{yes-or-no}
@@ -7,11 +8,11 @@ use Rattle.console.proofs.serve.Statement.{statement}
 use Rattle.console.proofs.serve.Tie as tie
 
 abbrev Inv-loop : tie.InvT-loop
-Inv-loop buf₀ out₀ setup₀ named₀ book₀ owners₀ saved₀ powers₀ turns₀ lists₀ kept₀ left₀ buf out setup named book owners saved powers turns lists kept left =
+Inv-loop loud buf₀ out₀ setup₀ named₀ book₀ owners₀ saved₀ powers₀ turns₀ lists₀ kept₀ left₀ buf out setup named book owners saved powers turns lists kept left =
     Serving (machine setup₀ named₀ book₀ owners₀ saved₀ powers₀ turns₀ lists₀) (machine setup named book owners saved powers turns lists) buf kept
 
 abbrev μ-loop : tie.MeasureT-loop
-μ-loop buf₀ out₀ setup₀ named₀ book₀ owners₀ saved₀ powers₀ turns₀ lists₀ kept₀ left₀ buf out setup named book owners saved powers turns lists kept left =
+μ-loop loud buf₀ out₀ setup₀ named₀ book₀ owners₀ saved₀ powers₀ turns₀ lists₀ kept₀ left₀ buf out setup named book owners saved powers turns lists kept left =
     left
 
 loop-holds : tie.Need-loop-holds Inv-loop μ-loop
@@ -23,8 +24,8 @@ fill-requires c κs = search needs
 answer-read-requires : tie.Need-answer-read-requires Inv-loop μ-loop
 answer-read-requires c κs = search needs
 
-write-requires : tie.Need-write-requires Inv-loop μ-loop
-write-requires c κs = search needs
+pass-on-requires : tie.Need-pass-on-requires Inv-loop μ-loop
+pass-on-requires c κs = search needs
 
 returns : tie.Need-returns Inv-loop μ-loop
 returns c y = absurd (yes-or-no _ y refl)
@@ -56,7 +57,7 @@ serve-spec =
     loop-holds
     fill-requires
     answer-read-requires
-    write-requires
+    pass-on-requires
     returns
     returns-2
     sub-left
