@@ -14,7 +14,7 @@ use Rattle.hex_write.specs.Put.{Laid, was-put, put-then}
 use Rattle.writing.specs.Decimal.{decimalText, decimal-short}
 use Rattle.writing.specs.Put.{blanks, length-blanks}
 use Rattle.words.specs.Words.{wordText}
-use Rattle.words.specs.Rows.{word-short}
+use Rattle.words.specs.Joined.{word-short}
 use Rattle.phrases.specs.declared.Piece.{Piece}
 use Rattle.phrases.specs.declared.Piece.the-variants.{Word, Number, Right, Line, Hex, Value, Column}
 use Rattle.phrases.specs.declared.Sentence.{Sentence}
