@@ -2,74 +2,24 @@
 ghost use mathlib.Core.Path.{_≡_};
 ghost use Rattle.words.specs.Words as w;
 ghost use Rattle.outcome_words.specs.Came.{cameSaid};
-ghost use Rattle.telling.specs.Telling.{opening, setupLine, siteAsked, entryAsked, nameAsked, onCore, speaker, arrivalSaid, lineOf, noFrame, sentenceOf};
+ghost use Rattle.telling.specs.Telling.{onCore, speaker, arrivalSaid, lineOf, noFrame, sentenceOf};
 use asking::Known;
 use outcomes::Came;
 use parsing::Frame;
 use parsing::Status;
 use phrases::Piece;
 use phrases::Sentence;
+use setup_words::ASKED;
 use words::names as w;
 
-// The columns: who speaks, which world, and what is asked.
-const WHO: u64 = 7;
-
+// The column of the world that speaks.
 const WORLD: u64 = 14;
-
-const ASKED: u64 = 22;
-
-// The number of the line.
-fn opening(n: u64) -> Sentence
-    ensures { λ s. ⌜ s ≡ opening n ⌝ }
-{
-    Sentence::blank()
-        .with(Piece::Line(n))
-        .with(Piece::Column(WHO))
-}
-
-// A line of set-up.
-fn setup_line(n: u64) -> Sentence
-    ensures { λ s. ⌜ s ≡ setupLine n ⌝ }
-{
-    opening(n)
-        .with(Piece::Word(w::SETUP))
-        .with(Piece::Column(ASKED))
-}
-
-// 11: the window and the cores.
-fn site(n: u64, base: u64, pages: u64, cores: u64) -> Sentence
-    ensures { λ s. ⌜ s ≡ siteAsked n base pages cores ⌝ }
-{
-    let s = setup_line(n).with(Piece::Word(w::WINDOW));
-    let t = asking::count(s, pages, w::PAGE, w::PAGES);
-    let u = t.with(Piece::Word(w::AT)).with(Piece::Hex(base));
-    asking::count(u.with(Piece::Word(w::COMMA)), cores, w::ONE_CORE, w::CORES)
-}
-
-// 10: who answers which calls.
-fn entry(n: u64, first: u64, last: u64, kind: u64, handler: u64) -> Sentence
-    ensures { λ s. ⌜ s ≡ entryAsked n first last kind handler ⌝ }
-{
-    let s = asking::name(setup_line(n), Known::Kind, kind);
-    let t = s.with(Piece::Word(w::CALLS)).with(Piece::Number(first));
-    let u = t.with(Piece::Word(w::UP_TO)).with(Piece::Number(last));
-    asking::name(u.with(Piece::Word(w::GO_TO)), Known::Handler, handler)
-}
-
-// 12: whose pages.
-fn pages(n: u64, first: u64, count: u64, owner: u64) -> Sentence
-    ensures { λ s. ⌜ s ≡ nameAsked n first count owner ⌝ }
-{
-    let s = asking::count(setup_line(n), count, w::PAGE, w::PAGES);
-    let t = s.with(Piece::Word(w::FROM_PAGE)).with(Piece::Number(first));
-    asking::name(t.with(Piece::Word(w::OWNER)), Known::World, owner)
-}
 
 // A line of a core.
 fn on_core(n: u64, core: u64) -> Sentence
     ensures { λ s. ⌜ s ≡ onCore n core ⌝ }
 {
-    opening(n)
+    setup_words::opening(n)
         .with(Piece::Word(w::CORE))
         .with(Piece::Number(core))
 }
@@ -115,7 +65,7 @@ fn line_word(why: Status) -> u64
 fn no_frame(n: u64, why: Status) -> Sentence
     ensures { λ s. ⌜ s ≡ noFrame n why ⌝ }
 {
-    let s = opening(n).with(Piece::Word(w::NO_FRAME));
+    let s = setup_words::opening(n).with(Piece::Word(w::NO_FRAME));
     let t = s.with(Piece::Column(ASKED));
     t.with(Piece::Word(line_word(why)))
 }
@@ -142,7 +92,7 @@ pub fn tell(n: u64, frame: Frame, x: &[u64; 8], came: Came, runs: u64) -> Senten
 {
     match frame {
         Frame::Site { base, pages, cores } => {
-            let s = site(n, base, pages, cores);
+            let s = setup_words::site(n, base, pages, cores);
             set_up(s, w::OUT_OF_RANGE, came, runs)
         }
         Frame::Entry {
@@ -151,7 +101,7 @@ pub fn tell(n: u64, frame: Frame, x: &[u64; 8], came: Came, runs: u64) -> Senten
             kind,
             handler,
         } => {
-            let s = entry(n, first, last, kind, handler);
+            let s = setup_words::entry(n, first, last, kind, handler);
             set_up(s, w::GIVEN_BEFORE, came, runs)
         }
         Frame::Name {
@@ -159,7 +109,7 @@ pub fn tell(n: u64, frame: Frame, x: &[u64; 8], came: Came, runs: u64) -> Senten
             count,
             owner,
         } => {
-            let s = pages(n, first, count, owner);
+            let s = setup_words::pages(n, first, count, owner);
             set_up(s, w::NAMED_BEFORE, came, runs)
         }
         Frame::Call { core } => {

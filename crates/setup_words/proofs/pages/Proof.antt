@@ -1,7 +1,7 @@
 -- The sentence is made a piece at a time, as the definition has it.
 use borrow.Author.Needs.{needs}
-use Rattle.telling.proofs.pages.Statement.{statement}
-use Rattle.telling.proofs.pages.Tie as tie
+use Rattle.setup_words.proofs.pages.Statement.{statement}
+use Rattle.setup_words.proofs.pages.Tie as tie
 
 setup-line-requires : tie.Need-setup-line-requires
 setup-line-requires c κs = search needs

@@ -1,7 +1,7 @@
 -- The sentence is made a piece at a time, as the definition has it.
 use borrow.Author.Needs.{needs}
-use Rattle.telling.proofs.opening.Statement.{statement}
-use Rattle.telling.proofs.opening.Tie as tie
+use Rattle.setup_words.proofs.opening.Statement.{statement}
+use Rattle.setup_words.proofs.opening.Tie as tie
 
 blank-requires : tie.Need-blank-requires
 blank-requires c κs = search needs

@@ -1,7 +1,7 @@
 -- The sentence is made a piece at a time, as the definition has it.
 use borrow.Author.Needs.{needs}
-use Rattle.telling.proofs.setup_line.Statement.{statement}
-use Rattle.telling.proofs.setup_line.Tie as tie
+use Rattle.setup_words.proofs.setup_line.Statement.{statement}
+use Rattle.setup_words.proofs.setup_line.Tie as tie
 
 opening-requires : tie.Need-opening-requires
 opening-requires c κs = search needs
