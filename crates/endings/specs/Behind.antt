@@ -13,9 +13,10 @@ use Rattle.setup.specs.Table.{ready, window, cores}
 use Rattle.words.specs.Words as w
 use Rattle.phrases.specs.Text.{lineText}
 use Rattle.standing.specs.Standing.{wordSaid}
-use Rattle.inventory.specs.Inventory.{places, rangeEnd, isHeld, heldFrom, heldThing, rangeThing, coreThing, afterHead, coreTold, rangeTold, heldTold}
+use Rattle.inventory.specs.Inventory.{places, rangeEnd, isHeld, heldFrom, heldThing, rangeThing, coreThing, afterHead}
 use Rattle.inventory.specs.declared.Thing.{Thing}
 use Rattle.inventory.specs.declared.Thing.the-variants.{Head, NoWindow, Core, Range, Held, NoMappings, End}
+use Rattle.accounts.specs.Accounts.{coreTold, rangeTold, heldTold}
 use Rattle.picture.specs.Picture.{rowPages, rowText}
 use Rattle.endings.specs.declared.Part.{Part}
 use Rattle.endings.specs.declared.Part.the-variants.{Stands, Page, Legend, Row}

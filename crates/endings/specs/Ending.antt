@@ -14,7 +14,8 @@ use Rattle.phrases.specs.Text.{lineText}
 use Rattle.phrases.specs.declared.Sentence.{Sentence}
 use Rattle.phrases.specs.declared.Piece.the-variants.{Word}
 use Rattle.standing.specs.Standing.{wordSaid, headSaid}
-use Rattle.inventory.specs.Inventory.{rangeEnd, places, isHeld, coreTold, rangeTold, heldTold, pageTold}
+use Rattle.inventory.specs.Inventory.{rangeEnd, places, isHeld}
+use Rattle.accounts.specs.Accounts.{coreTold, rangeTold, heldTold, pageTold}
 use Rattle.picture.specs.Picture.{rowPages, rowText}
 use Rattle.views.specs.declared.View.{View}
 use Rattle.views.specs.declared.View.the-variants.{All, Page, Map}

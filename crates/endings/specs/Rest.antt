@@ -18,9 +18,10 @@ use Rattle.phrases.specs.Text.{lineText, longest, told}
 use Rattle.phrases.specs.declared.Sentence.{Sentence}
 use Rattle.phrases.specs.declared.Piece.the-variants.{Word}
 use Rattle.standing.specs.Standing.{wordSaid}
-use Rattle.inventory.specs.Inventory.{places, next, said, isEnd, coreTold, rangeTold, heldTold, pageTold}
+use Rattle.inventory.specs.Inventory.{places, next, isEnd}
 use Rattle.inventory.specs.declared.Thing.{Thing}
 use Rattle.inventory.specs.declared.Thing.the-variants.{Head, NoWindow, Core, Range, Held, NoMappings, End}
+use Rattle.accounts.specs.Accounts.{said, coreTold, rangeTold, heldTold, pageTold}
 use Rattle.picture.specs.Picture.{rowPages, rowText}
 use Rattle.views.specs.declared.View.{View}
 use Rattle.views.specs.declared.View.the-variants as View

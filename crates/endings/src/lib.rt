@@ -126,11 +126,11 @@ fn put_part(
 {
     match part {
         Part::Stands(thing) => {
-            let s = inventory::said(thing, lines, setup, owners, origins, powers, turns, lists);
+            let s = accounts::said(thing, lines, setup, owners, origins, powers, turns, lists);
             phrases::put_line(out, at, s)
         }
         Part::Page(address) => {
-            let s = inventory::page_said(setup, owners, origins, address);
+            let s = accounts::page_said(setup, owners, origins, address);
             phrases::put_line(out, at, s)
         }
         Part::Legend => phrases::put_line(out, at, legend_said(setup)),

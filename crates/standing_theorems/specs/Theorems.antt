@@ -25,7 +25,7 @@ use Rattle.tracing.specs.Traced.{Kept, start, afterLine}
 use Rattle.phrases.specs.Text.{lineText}
 use Rattle.phrases.specs.declared.Sentence.{Sentence}
 use Rattle.standing.specs.Standing.{coreSaid, rangeSaid, mappingSaid}
-use Rattle.inventory.specs.Inventory.{coreTold, rangeTold, pageEnd, pageTold}
+use Rattle.accounts.specs.Accounts.{coreTold, rangeTold, pageEnd, pageTold}
 use Rattle.views.specs.declared.View.the-variants.{All, Page}
 use Rattle.endings.specs.Ending.{endLines}
 use Rattle.guarantees.specs.Runs.{Events, always}

@@ -16,7 +16,8 @@ use Rattle.setup.specs.Table.{ready, window, cores}
 use Rattle.origins.specs.Lines.{linesIn}
 use Rattle.phrases.specs.Text.{lineText}
 use Rattle.standing.specs.Standing.{headSaid, mappingSaid}
-use Rattle.inventory.specs.Inventory.{places, rangeEnd, isHeld, coreTold, rangeTold, heldTold}
+use Rattle.inventory.specs.Inventory.{places, rangeEnd, isHeld}
+use Rattle.accounts.specs.Accounts.{coreTold, rangeTold, heldTold}
 use Rattle.views.specs.declared.View.the-variants.{All}
 use Rattle.endings.specs.Ending.{coreLines, rangeLines, placeLines, mappingLines, endLines}
 use Rattle.endings.specs.Ranges.{OneRange, range-is}

@@ -1,8 +1,8 @@
 -- What is read of the tables is said.
 use borrow.Author.Needs.{needs}
-use Rattle.inventory.specs.Inventory.{coreTold}
-use Rattle.inventory.proofs.core_said.Statement.{statement}
-use Rattle.inventory.proofs.core_said.Tie as tie
+use Rattle.accounts.specs.Accounts.{coreTold}
+use Rattle.accounts.proofs.core_said.Statement.{statement}
+use Rattle.accounts.proofs.core_said.Tie as tie
 
 power-of-requires : tie.Need-power-of-requires
 power-of-requires c κs = search needs

@@ -1,8 +1,8 @@
 -- What is read of the tables is said.
 use borrow.Author.Needs.{needs}
-use Rattle.inventory.specs.Inventory.{rangeTold}
-use Rattle.inventory.proofs.range_said.Statement.{statement}
-use Rattle.inventory.proofs.range_said.Tie as tie
+use Rattle.accounts.specs.Accounts.{rangeTold}
+use Rattle.accounts.proofs.range_said.Statement.{statement}
+use Rattle.accounts.proofs.range_said.Tie as tie
 
 window-of-requires : tie.Need-window-of-requires
 window-of-requires c κs = search needs

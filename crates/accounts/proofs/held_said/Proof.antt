@@ -1,8 +1,8 @@
 -- What is read of the tables is said.
 use borrow.Author.Needs.{needs}
-use Rattle.inventory.specs.Inventory.{heldTold}
-use Rattle.inventory.proofs.held_said.Statement.{statement}
-use Rattle.inventory.proofs.held_said.Tie as tie
+use Rattle.accounts.specs.Accounts.{heldTold}
+use Rattle.accounts.proofs.held_said.Statement.{statement}
+use Rattle.accounts.proofs.held_said.Tie as tie
 
 place-of-requires : tie.Need-place-of-requires
 place-of-requires c κs = search needs

@@ -1,8 +1,8 @@
 -- Each way out is a case of the definition.
 use borrow.Author.Needs.{needs}
-use Rattle.inventory.specs.Inventory.{pages-told}
-use Rattle.inventory.proofs.page_said.Statement.{statement}
-use Rattle.inventory.proofs.page_said.Tie as tie
+use Rattle.accounts.specs.Accounts.{pages-told}
+use Rattle.accounts.proofs.page_said.Statement.{statement}
+use Rattle.accounts.proofs.page_said.Tie as tie
 
 is-ready-requires : tie.Need-is-ready-requires
 is-ready-requires c κs = search needs

@@ -1,8 +1,8 @@
 -- Each way out is a case of the definition.
 use borrow.Author.Needs.{needs}
-use Rattle.inventory.specs.Inventory.{page-ends}
-use Rattle.inventory.proofs.page_end.Statement.{statement}
-use Rattle.inventory.proofs.page_end.Tie as tie
+use Rattle.accounts.specs.Accounts.{page-ends}
+use Rattle.accounts.proofs.page_end.Statement.{statement}
+use Rattle.accounts.proofs.page_end.Tie as tie
 
 add-result : tie.Need-add-result
 add-result c = search needs

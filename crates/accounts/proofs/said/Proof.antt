@@ -1,8 +1,8 @@
 -- In each arm the thing is known.
 use borrow.Author.Needs.{needs}
-use Rattle.inventory.specs.Inventory.{sayings}
-use Rattle.inventory.proofs.said.Statement.{statement}
-use Rattle.inventory.proofs.said.Tie as tie
+use Rattle.accounts.specs.Accounts.{sayings}
+use Rattle.accounts.proofs.said.Statement.{statement}
+use Rattle.accounts.proofs.said.Tie as tie
 
 enum-told : tie.Need-enum-told
 enum-told c = search needs
