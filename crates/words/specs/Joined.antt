@@ -6,11 +6,11 @@ use Prim.Native.Nat.{ℕ, zero, suc, _+_, _-_, _≤_, _<_}
 use Prim.Native.String.{String}
 use native.Mathlib.Numerals.{add-one}
 use native.Mathlib.Omega.{arith}
-use lib.Dec.{leb, ltb}
+use lib.Dec.{leb}
 use lib.ListN.{length, getD, take, drop, List·getD-eq-default, length-append}
 use lib.Seq.{take-at, drop-append-add}
-use borrow.Author.Tests.{leb-true, ltb-true, ltb-false}
-use Rattle.rules.specs.Choice.{left-true, right-true, either, chosen}
+use borrow.Author.Tests.{leb-true}
+use Rattle.rules.specs.Choice.{left-true, right-true, chosen}
 use Rattle.tools.specs.Laid.{put, laid}
 use Rattle.hex.specs.Signs.{signs}
 use Rattle.words.specs.Words.{words, many, wordText}
