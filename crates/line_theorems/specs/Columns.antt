@@ -1,13 +1,14 @@
--- Columns line up: in every line who asks takes 22 signs, and what came of it begins behind 72, unless what is asked has more than 49.
--- From line 1,000,000 on it is a sign more for each digit past the sixth.
+-- Columns line up: who asks takes 22 signs, the number of the line among them; behind it stands what is asked, filled up to 50 signs with
+-- blanks, or behind it one blank where it takes 50 or more; and then what came of it. From line 1,000,000 on the first part is longer by the
+-- digits of the number past the sixth.
 use mathlib.Core.Path.{_≡_, refl, sym, ap, _∙_}
 use mathlib.Core.List.{List, _++_, append-assoc}
 use Prim.Native.Nat.{ℕ, zero, suc, _+_, _-_, _≤_, _<_}
 use native.Mathlib.Omega.{arith}
 use lib.Dec.{ltb}
 use lib.ListN.{length, length-append}
-use borrow.Author.Tests.{lt-ltb}
-use Rattle.rules.specs.Choice.{pick, pick-yes}
+use borrow.Author.Tests.{lt-ltb, le-ltb, ltb-true, ltb-false}
+use Rattle.rules.specs.Choice.{pick, either, pick-yes, pick-no}
 use Rattle.calls.specs.declared.Made.{Made}
 use Rattle.judgements.specs.declared.Answer.{Answer}
 use Rattle.parsing.specs.declared.Frame.{Frame}
@@ -17,15 +18,16 @@ use Rattle.outcomes.specs.declared.Came.the-variants.{Told, Called}
 use Rattle.writing.specs.Decimal.{inDecimal, decimalText}
 use Rattle.writing.specs.Put.{row, blanks}
 use Rattle.words.specs.Words.{words, wordText}
-use Rattle.phrases.specs.Sentence.{most, pieceOf, _▹_}
+use Rattle.phrases.specs.Sentence.{pieceOf, _▹_}
 use Rattle.phrases.specs.Text.{gapText, extended, upto, textOf}
 use Rattle.phrases.specs.declared.Piece.the-variants.{Column}
-use Rattle.phrases.specs.declared.Sentence.{Sentence}
 use Rattle.asking.specs.Names.{namedFrom}
 use Rattle.telling.specs.Telling.{onCore, speaker, sentenceOf}
-use Rattle.line_theorems.specs.Growing.{whole, whole-more}
+use Rattle.line_theorems.specs.Growing.{whole, text-more, text-whole}
 use Rattle.line_theorems.specs.Numbered.{past, blanks-long, digits-below}
-use Rattle.line_theorems.specs.Room.{Has, askedOf, whoOf, toColumn, who-has, asked-has-all, sentence-has}
+use Rattle.line_theorems.specs.Pieces.{whoOf, askedOf}
+use Rattle.line_theorems.specs.Room.{who-has, asked-has, column-has}
+use Rattle.line_theorems.specs.Alike.{cameOf, came-alone}
 
 -- ---- the statement
 -- the core that a line names
@@ -42,14 +44,9 @@ pub record Lined (n : ℕ) (f : Frame) (xs : List ℕ) (c : Came) (now : ℕ) : 
   pub who : length (textOf (whoOf n f c)) ≡ 22 + past n
   pub what : List ℕ
   pub asked : textOf (askedOf n f xs c now) ≡ textOf (whoOf n f c) ++ what
-  pub came : List ℕ
-  pub line : length what < 50 → textOf (sentenceOf n f xs c now) ≡ textOf (askedOf n f xs c now) ++ (blanks (50 - length what) ++ came)
+  pub line : textOf (sentenceOf n f xs c now) ≡ textOf (askedOf n f xs c now) ++ (blanks (pick (ltb (length what) 50) (50 - length what) 1) ++ textOf (cameOf f xs c now))
 
 -- ---- texts
-text-whole : (s : Sentence) → s .count < most → textOf s ≡ whole s .0
-unfolding textOf
-text-whole s h = ap (λ (k : ℕ). upto s k .0) (pick-yes (ltb (s .count) most) (s .count) most (lt-ltb (s .count) most h))
-
 gap-is : (w c : ℕ) → w < c → gapText w c ≡ blanks (c - w)
 unfolding gapText
 gap-is w c h = ap blanks (pick-yes (ltb w c) (c - w) 1 (lt-ltb w c h))
@@ -57,12 +54,15 @@ gap-is w c h = ap blanks (pick-yes (ltb w c) (c - w) 1 (lt-ltb w c h))
 gap-long : (w c : ℕ) → w < c → c ≤ 96 → length (gapText w c) ≡ c - w
 gap-long w c h g = ap length (gap-is w c h) ∙ blanks-long (c - w) (omega arith)
 
--- up to the column of what came
-to-column : (line n : ℕ) (base : List ℕ) (s : Sentence) → Has line base n s → s .count < most → toColumn line s ≡ whole s .0 ++ gapText (whole s .1) 72
-unfolding _▹_ extended
-to-column line n base s h room =
-    ap (λ (t : Sentence). whole t .0) (pick-yes (ltb (s .count) most) _ s (lt-ltb (s .count) most room))
-    ∙ ap (λ (q : List ℕ × ℕ). q .0) (whole-more s (Column 72) room (h .kinds-long) (h .values-long))
+-- behind 22 signs
+gap-behind : (k : ℕ) → gapText (22 + k) 72 ≡ blanks (pick (ltb k 50) (50 - k) 1)
+unfolding gapText
+gap-behind k =
+    either (ltb k 50)
+    (λ y. let h = ltb-true k 50 y in
+    let z : 72 - (22 + k) ≡ 50 - k = omega arith in
+    ap blanks (pick-yes (ltb (22 + k) 72) (72 - (22 + k)) 1 (lt-ltb (22 + k) 72 (omega arith)) ∙ z ∙ sym (pick-yes (ltb k 50) (50 - k) 1 y)))
+    (λ n. let h = ltb-false k 50 n in ap blanks (pick-no (ltb (22 + k) 72) (72 - (22 + k)) 1 (le-ltb (22 + k) 72 (omega arith)) ∙ sym (pick-no (ltb k 50) (50 - k) 1 n)))
 
 -- ---- who asks
 core-signs : (n core : ℕ) → whole (onCore n core ▹ Column 22) .1 ≡ 12 + length (decimalText core) + length (gapText (12 + length (decimalText core)) 22)
@@ -117,25 +117,26 @@ who-wide n (Frame.Refused why) c h g = refl
 pub columns : (n : ℕ) (f : Frame) (xs : List ℕ) (c : Came) (now : ℕ) → coreIn f < 256 → ((made : Made) → c ≡ Called made → (coreIn f < 8) × (made .caller < 4)) → Lined n f xs c now
 columns n f xs c now h g =
     let s = askedOf n f xs c now in
-    let w = who-has n f c in
-    let a = asked-has-all n f xs c now in
-    let l = sentence-has n f xs c now in
-    let wt = text-whole (whoOf n f c) (omega (arith, w .few)) in
-    let at = text-whole s (omega (arith, a .few)) in
-    let lt = text-whole (sentenceOf n f xs c now) (omega (arith, l .few)) in
+    let w = who-has n f xs c now in
+    let a = asked-has n f xs c now in
+    let l = came-alone n f xs c now (column-has n f xs c now .long) in
+    let wt = text-whole 9 (whoOf n f c) (w .long) (omega arith) in
+    let at = text-whole 19 s (a .long) (omega arith) in
+    let lt = text-whole 25 (sentenceOf n f xs c now) (l .first) (omega arith) in
+    let ct = text-whole 25 (cameOf f xs c now) (l .second) (omega arith) in
     let wide : length (whole (whoOf n f c) .0) ≡ 22 + past n = w .signs ∙ ap (λ (k : ℕ). k + past n) (who-wide n f c h g) in
     let what = a .rest in
     let size : length (whole s .0) ≡ 22 + past n + length what = ap length (a .begins) ∙ omega (arith, length-append (whole (whoOf n f c) .0) what, wide) in
+    let z : whole s .1 ≡ 22 + length what = omega (arith, a .signs, size) in
+    let gap = blanks (pick (ltb (length what) 50) (50 - length what) 1) in
+    let column : whole (s ▹ Column 72) .0 ≡ whole s .0 ++ gap =
+    text-more 19 s (Column 72) (a .long) (omega arith) ∙ ap (λ (k : ℕ). whole s .0 ++ gapText k 72) z ∙ ap (λ (t : List ℕ). whole s .0 ++ t) (gap-behind (length what)) in
+    let came = whole (cameOf f xs c now) .0 in
     record {
       who = ap length wt ∙ wide;
       what = what;
       asked = at ∙ a .begins ∙ ap (λ (t : List ℕ). t ++ what) (sym wt);
-      came = l .rest;
-      line = λ few.
-          let z : whole s .1 ≡ 22 + length what = omega (arith, a .signs, size) in
-          let v : 72 - (22 + length what) ≡ 50 - length what = omega arith in
-          let gap : gapText (whole s .1) 72 ≡ blanks (50 - length what) = ap (λ (k : ℕ). gapText k 72) z ∙ gap-is (22 + length what) 72 (omega arith) ∙ ap blanks v in
-          lt ∙ l .begins ∙ ap (λ (t : List ℕ). t ++ l .rest) (to-column n 19 (whole (whoOf n f c) .0) s a (omega (arith, a .few)))
-          ∙ append-assoc (whole s .0) (gapText (whole s .1) 72) (l .rest)
-          ∙ ap (λ (t : List ℕ). t ++ (gapText (whole s .1) 72 ++ l .rest)) (sym at) ∙ ap (λ (t : List ℕ). textOf s ++ (t ++ l .rest)) gap;
+      line =
+          lt ∙ l .is ∙ ap (λ (t : List ℕ). t ++ came) column ∙ append-assoc (whole s .0) gap came
+          ∙ ap (λ (t : List ℕ). t ++ (gap ++ came)) (sym at) ∙ ap (λ (t : List ℕ). textOf s ++ (gap ++ t)) (sym ct);
     }

@@ -1,13 +1,15 @@
 -- A sentence with a piece more: its text stands behind that of the pieces before it.
 use mathlib.Core.Path.{_≡_, refl, ap, _∙_}
-use mathlib.Core.List.{List}
+use mathlib.Core.List.{List, _++_}
 use Prim.Native.Nat.{ℕ, zero, suc, _+_, _≤_, _<_}
 use native.Mathlib.Omega.{arith}
-use lib.ListN.{length, set}
+use lib.Dec.{ltb}
+use lib.ListN.{length, set, length-set}
 use lib.Seq.{getD-set-same, getD-set-other}
-use Rattle.rules.specs.Choice.{pick}
-use Rattle.phrases.specs.Sentence.{most, kindOf, valueOf, pieceOf, pieceAt}
-use Rattle.phrases.specs.Text.{extended, upto}
+use borrow.Author.Tests.{lt-ltb}
+use Rattle.rules.specs.Choice.{pick, pick-yes}
+use Rattle.phrases.specs.Sentence.{most, kindOf, valueOf, pieceOf, pieceAt, _▹_}
+use Rattle.phrases.specs.Text.{pieceText, inColumns, extended, upto, textOf}
 use Rattle.phrases.specs.declared.Piece.{Piece}
 use Rattle.phrases.specs.declared.Piece.the-variants.{Word, Number, Right, Line, Hex, Value, Column}
 use Rattle.phrases.specs.declared.Sentence.{Sentence}
@@ -50,3 +52,38 @@ module _ (s : Sentence) (p : Piece) (room : s .count < most) (ks : length (s .ki
 
   pub whole-more : whole grown ≡ extended (whole s) p
   whole-more = let z : s .count + 1 ≡ suc (s .count) = omega arith in ap (upto grown) z ∙ more
+
+-- ---- the same of a sentence that has at most so many pieces
+pub record Long (k : ℕ) (s : Sentence) : Type 0 where
+  pub few : s .count ≤ k
+  pub kinds-long : length (s .kinds) ≡ most
+  pub values-long : length (s .values) ≡ most
+
+module _ (k : ℕ) (s : Sentence) (p : Piece) (l : Long k s) (h : k < most) where
+  is-grown : (s ▹ p) ≡ grown s p (omega (arith, l .few)) (l .kinds-long) (l .values-long)
+  unfolding _▹_
+  is-grown = pick-yes _ _ s (lt-ltb (s .count) most (omega (arith, l .few)))
+
+  pub long-more : Long (suc k) (s ▹ p)
+  long-more = rw is-grown (record {
+    few = omega (arith, l .few);
+    kinds-long = length-set (s .kinds) (s .count) (kindOf p) ∙ l .kinds-long;
+    values-long = length-set (s .values) (s .count) (valueOf p) ∙ l .values-long;
+  })
+
+  pub text-more : whole (s ▹ p) .0 ≡ whole s .0 ++ pieceText (whole s .1) p
+  unfolding extended
+  text-more = ap (λ (t : Sentence). whole t .0) is-grown ∙ ap (λ (q : List ℕ × ℕ). q .0) (whole-more s p (omega (arith, l .few)) (l .kinds-long) (l .values-long))
+
+  pub signs-more : whole (s ▹ p) .1 ≡ whole s .1 + inColumns p (length (pieceText (whole s .1) p))
+  unfolding extended
+  signs-more = ap (λ (t : Sentence). whole t .1) is-grown ∙ ap (λ (q : List ℕ × ℕ). q .1) (whole-more s p (omega (arith, l .few)) (l .kinds-long) (l .values-long))
+
+-- fewer than fit
+pub within : (k l : ℕ) (s : Sentence) → Long k s → k ≤ l → Long l s
+within k l s h g = record { few = omega (arith, h .few); kinds-long = h .kinds-long; values-long = h .values-long }
+
+-- then the text is that of all pieces
+pub text-whole : (k : ℕ) (s : Sentence) → Long k s → k < most → textOf s ≡ whole s .0
+unfolding textOf
+text-whole k s l h = ap (λ (n : ℕ). upto s n .0) (pick-yes (ltb (s .count) most) (s .count) most (lt-ltb (s .count) most (omega (arith, l .few))))

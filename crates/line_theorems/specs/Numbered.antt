@@ -40,8 +40,8 @@ digits-below (suc k) (suc m) x h =
     (λ n. omega (arith, digits-high m x (ltb-false x 10 n), digits-below k m (x / 10) (omega (arith, p, h))))
 
 -- up to line 999,999 there is none
-pub none-past : (n : ℕ) → n < 1000000 → past n ≡ 0
-none-past n h = omega (arith, digits-below 5 20 n h)
+pub past-none : (n : ℕ) → n < 1000000 → past n ≡ 0
+past-none n h = omega (arith, digits-below 5 20 n h)
 
 -- ---- the room
 pub blanks-long : (n : ℕ) → n ≤ 96 → length (blanks n) ≡ n
