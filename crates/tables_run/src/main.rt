@@ -1,8 +1,10 @@
 // Lists at the edges of the rules of tables. Of each table the entries that are not 0, as table, entry, the number there, and how many
-// entries from it on go page by page; then how many tables there are, or 88.
+// entries from it on go page by page; then how many tables there are, or 88. Behind them stands where some addresses lead by a walk of
+// the tables, those that lead anywhere.
 ghost use Prim.Native.Nat.{_≤_, _<_};
 use building::Built;
 use libc::STDOUT_FILENO;
+use mapping::Lead;
 use mapping::Lists;
 use mapping::Mapping;
 use rules::SECURE;
@@ -16,8 +18,10 @@ const PAGE: u64 = 0x1000;
 
 const SLOT: u64 = 0x200000;
 
-// Where the window starts in most lists.
+// Where the window starts in most lists, and the largest mapping of the widest.
 const BASE: u64 = 0x80000000;
+
+const WIDEST: u64 = SLOT * (3 * ENTRIES + 256) - PAGE;
 
 fn say(text: &[u8]) {
     io::write_all(STDOUT_FILENO, text);
@@ -78,6 +82,33 @@ fn say_tables(numbers: &[u64; LENT], count: u64) {
     }
 }
 
+// Where an address leads, and what may be done there.
+fn say_lead(numbers: &[u64], address: u64) {
+    let Lead::To { phys, attr } = walks::walk(numbers, address) else {
+        return;
+    };
+    io::print_hex(STDOUT_FILENO, address, 8);
+    say(b" to ");
+    io::print_hex(STDOUT_FILENO, phys, 8);
+    say(b" ");
+    io::print_hex(STDOUT_FILENO, attr, 1);
+    say(b"\n");
+}
+
+// A page, the edges of the first slots, the second GiB, where the widest list begins, and what lies a page behind 2^32.
+fn say_leads(numbers: &[u64; LENT]) {
+    let all: &[u64] = numbers;
+    say_lead(all, PAGE + 8);
+    say_lead(all, SLOT - 1);
+    say_lead(all, SLOT);
+    say_lead(all, SLOT + PAGE + 4);
+    say_lead(all, 2 * SLOT);
+    say_lead(all, 3 * SLOT);
+    say_lead(all, ENTRIES * SLOT + 0x123456);
+    say_lead(all, WIDEST);
+    say_lead(all, 0x100000000 + PAGE + 8);
+}
+
 // The tables of Secure's list, in so many numbers.
 fn show(name: &[u8], lists: &Lists, room: usize)
     requires { ⌜ room ≤ 22528 ⌝ }
@@ -91,6 +122,7 @@ fn show(name: &[u8], lists: &Lists, room: usize)
             say_tables(&numbers, count);
             io::print_hex(STDOUT_FILENO, count, 2);
             say(b"\n");
+            say_leads(&numbers);
         }
     }
 }
@@ -172,13 +204,7 @@ fn show_widest(name: &[u8], room: usize)
     requires { ⌜ room ≤ 22528 ⌝ }
 {
     let mut lists = mapping::fresh();
-    map(
-        &mut lists,
-        SLOT * (3 * ENTRIES + 256) - PAGE,
-        BASE,
-        3586 * PAGE,
-        2,
-    );
+    map(&mut lists, WIDEST, BASE, 3586 * PAGE, 2);
     map_pairs(&mut lists, 1, 0);
     map_pair(&mut lists, 4, 0, 14);
     map_pairs(&mut lists, 5, 1);
