@@ -75,10 +75,6 @@ length-text : length text ≡ 1480
 unfolding text joined words
 length-text = refl
 
-pub begin-high : (k : ℕ) → begin k ≤ 1480
-unfolding begin text
-begin-high k = omega (arith, inside k words, length-text)
-
 pub begin-next : (k : ℕ) → k < many → begin (k + 1) ≡ begin k + length (wordText k)
 unfolding begin wordText
 begin-next k h = rw add-one (next-begins k words (omega (arith, length-words)))
@@ -123,11 +119,12 @@ module _ (o : List ℕ) (at k : ℕ) where
       let z : at + 0 ≡ at = omega arith in
       rw (none-past k h) (sym (chosen (λ (q : ℕ × List ℕ). q ≡ (at, o)) (leb (at + 0) (length o)) _ _ (λ y. rw z) (λ n. refl)))
 
--- from its begin to the next it is a part of the text
+-- both ends of it lie in the text, one behind the other
 pub begin-order : (k a b : ℕ) → k < many → a ≡ begin k → b ≡ begin (k + 1) → a ≤ b
 begin-order k a b h e f = omega (arith, begin-next k h)
 
-pub begin-low : (k a : ℕ) → a ≡ begin k → a ≤ 1480
-begin-low k a e = rw e (begin-high k)
+pub begin-inside : (k a : ℕ) → a ≡ begin k → a ≤ 1480
+unfolding begin text
+begin-inside k a e = omega (arith, inside k words, length-text)
 
-pub ruleset parts = (begin-order, begin-low, word-put, word-none)
+pub ruleset parts = (begin-order, begin-inside, word-put, word-none)
