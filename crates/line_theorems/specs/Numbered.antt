@@ -18,7 +18,7 @@ abbrev pub past : ℕ → ℕ
 past n = length (decimalText n) - 6
 
 -- ---- digits
-digits-low : (m x : ℕ) → x < 10 → length (inDecimal (suc m) x) ≡ 1
+pub digits-low : (m x : ℕ) → x < 10 → length (inDecimal (suc m) x) ≡ 1
 unfolding inDecimal
 digits-low m x h = rw (pick-yes _ ((48 + x) ∷ []) (inDecimal m (x / 10) ++ ((48 + x % 10) ∷ [])) (lt-ltb x 10 h))
 
