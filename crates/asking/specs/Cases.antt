@@ -4,8 +4,8 @@ use Rattle.rules.specs.Choice.{pick}
 use Rattle.tools.specs.Search.{first}
 use Rattle.identifiers.specs.Identifier.{parts, argument, key_of, identifier_of}
 use Rattle.judgements.specs.Judge.{args_of}
-use Rattle.hex.specs.Hex.{in_hex, sign_of}
-use Rattle.hex.specs.Signs.{signs}
+use Rattle.hex_digits.specs.Hex.{in_hex, sign_of}
+use Rattle.hex_digits.specs.Signs.{signs}
 use Rattle.writing.specs.Decimal.{in_decimal}
 use Rattle.writing.specs.Put.{row, blanks}
 use Rattle.words.specs.Words.{words, word_text}

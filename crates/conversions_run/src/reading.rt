@@ -55,7 +55,7 @@ fn number_at(text: &[u8], at: usize) -> Read
     while next < text.len() {
         let sign = text[next];
         next += 1;
-        let d = hex::digit(sign);
+        let d = hex_digits::digit(sign);
         if 15 < d {
             return Read { value, sign, next };
         }

@@ -3,8 +3,8 @@ use Rattle.std.specs.Prelude.{◌≡◌, refl, Bool, false, ◌||◌, List, [], 
 use Prim.Native.String.{String}
 use Rattle.std.proofs.Common.{arith, ne_eqb}
 use Rattle.rules.specs.Choice.{pick, chosen, neither, not_first, not_second}
-use Rattle.hex.specs.Hex.{sign_of, in_hex}
-use Rattle.hex.specs.Signs.{signs}
+use Rattle.hex_digits.specs.Hex.{sign_of, in_hex}
+use Rattle.hex_digits.specs.Signs.{signs}
 use Rattle.lines.specs.Lines.{Unbroken}
 use Rattle.lines.specs.Parts.{broken}
 use Rattle.inputs.specs.Cut.{all_unfinished, unfinished_so}

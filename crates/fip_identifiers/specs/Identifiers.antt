@@ -6,8 +6,8 @@ use Rattle.std.proofs.Math.ListN.{get_or-eq_default}
 use Rattle.rules.specs.Choice.{pick, either, yes_or_no, both_true, left_true, right_true}
 use Rattle.tools.specs.Search.{all, all_at, all_if}
 use Rattle.tools.specs.Laid.{laid, then, laid_append, length_laid}
-use Rattle.hex.specs.Rows.{Filled}
-use Rattle.hex.specs.Hex.{digit_of, sign_of, sign_low, sign_high, digit_below, digit_low, digit_between, digit_high, digit_above}
+use Rattle.hex_digits.specs.Rows.{Filled}
+use Rattle.hex_digits.specs.Hex.{digit_of, sign_of, sign_low, sign_high, digit_below, digit_low, digit_between, digit_high, digit_above}
 
 -- ---- the text of an identifier
 -- the two digits of a byte

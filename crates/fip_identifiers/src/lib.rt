@@ -3,7 +3,7 @@ ghost use Rattle.std.specs.Prelude.{◌≡◌, ◌+◌, ◌*◌, ◌≤◌, ◌<
 ghost use Rattle.fip_entries.specs.Entries.{entry};
 ghost use Rattle.tools.specs.Laid.{laid};
 ghost use Rattle.tools.specs.Search.{all};
-ghost use Rattle.hex.specs.Hex.{digit_of, sign_of};
+ghost use Rattle.hex_digits.specs.Hex.{digit_of, sign_of};
 ghost use Rattle.fip_identifiers.specs.Identifiers.{byte_text, run, id_text, agree, place_of, byte_of, bytes_of, identified};
 
 // The size of an identifier's text.

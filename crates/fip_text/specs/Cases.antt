@@ -3,8 +3,8 @@ use Rattle.std.specs.Prelude.{◌≡◌, refl, List, [], ◌∷◌, ◌++◌, ma
 use Prim.Native.String.{String}
 use Rattle.rules.specs.Choice.{pick}
 use Rattle.tools.specs.Search.{all}
-use Rattle.hex.specs.Signs.{signs}
-use Rattle.hex.specs.Hex.{sign_of}
+use Rattle.hex_digits.specs.Signs.{signs}
+use Rattle.hex_digits.specs.Hex.{sign_of}
 use Rattle.fip_entries.specs.Numbers.{two, four, eight}
 use Rattle.fip_entries.specs.Entries.{offset, size, flags}
 use Rattle.fip_identifiers.specs.Identifiers.{run, id_text}

@@ -3,7 +3,7 @@ use Rattle.std.specs.Prelude.{Bool, List, [], ◌∷◌, ℕ}
 use Prim.Native.String.{String}
 use Rattle.rules.specs.Choice.{pick}
 use Rattle.tools.specs.Search.{all}
-use Rattle.hex.specs.Signs.{signs}
+use Rattle.hex_digits.specs.Signs.{signs}
 use Rattle.fip_identifiers.specs.Identifiers.{agree}
 
 -- identifiers and their names

@@ -9,7 +9,7 @@ use Rattle.std.proofs.Math.Seq.{length-take-le}
 use Rattle.rules.specs.Choice.{pick, pick_yes, pick_no, by}
 use Rattle.tools.specs.Search.{all, all_at, first}
 use Rattle.tools.specs.Laid.{laid}
-use Rattle.hex.specs.Signs.{signs}
+use Rattle.hex_digits.specs.Signs.{signs}
 use Rattle.fip_identifiers.specs.Identifiers.{agree}
 use Rattle.fip_text.specs.Names.{names, is_text, name_among, name_text}
 use Rattle.writing.specs.Pieces.{Stands}

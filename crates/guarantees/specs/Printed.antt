@@ -31,8 +31,8 @@ use Rattle.answers.specs.Laws.{written_fits}
 use Rattle.calls.specs.Step.{sight, caller_of, judged_in}
 use Rattle.calls.specs.Effects.{deed_in, answer_in, results_in}
 use Rattle.calls.specs.Left.{power_started, power_off, power_spared}
-use Rattle.hex.specs.Hex.{sign_of, value_of, value, numbers, in_hex, sign_low, sign_high, digit_low, digit_high, length_hex}
-use Rattle.hex.specs.Read.{value_small}
+use Rattle.hex_digits.specs.Hex.{sign_of, value_of, value, numbers, in_hex, sign_low, sign_high, digit_low, digit_high, length_hex}
+use Rattle.hex_digits.specs.Read.{value_small}
 use Rattle.parsing.specs.Frame.{status_byte, frame_of, kind as parsing-kind, sized, parsed, parsed_call}
 use Rattle.lines.specs.Input.{reading}
 use Rattle.parsing.specs.declared.Status.{Status}

@@ -16,7 +16,7 @@ use Rattle.rules.specs.Sizes.{normal}
 use Rattle.judgements.specs.Judge.{called_by, args_of, found}
 use Rattle.judgements.specs.Grounds.{Takes}
 use Rattle.calls.specs.Step.{sight, judged_in}
-use Rattle.hex.specs.Hex.{value, in_hex}
+use Rattle.hex_digits.specs.Hex.{value, in_hex}
 use Rattle.lines.specs.Lines.{lines_of}
 use Rattle.lines.specs.Meant.{meant}
 use Rattle.lines.specs.Input.{reading, readings}

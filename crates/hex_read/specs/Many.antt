@@ -8,9 +8,9 @@ use Rattle.std.proofs.Math.Seq.{ext_get_or}
 use borrow.Author.Tests.{lt-ltb, le-ltb, ltb-true}
 use Rattle.rules.specs.Choice.{pick, picked, passed, by, either, yes_or_no}
 use Rattle.tools.specs.Search.{all, all_at, all_goes, all_stops, all_ends}
-use Rattle.hex.specs.Hex.{value_of, digit_at, value, number, numbers}
-use Rattle.hex.specs.Read.{no_digit, digit_past}
-use Rattle.hex.specs.Rows.{Row, Filled, filled_none, filled_more, filled_all}
+use Rattle.hex_digits.specs.Hex.{value_of, digit_at, value, number, numbers}
+use Rattle.hex_digits.specs.Read.{no_digit, digit_past}
+use Rattle.hex_digits.specs.Rows.{Row, Filled, filled_none, filled_more, filled_all}
 use Rattle.hex_read.specs.Marks.{mark_of, mark_tells, mark_value}
 use Rattle.hex_read.specs.Packed.{Small, value_in, word_of}
 

@@ -3,7 +3,7 @@ use Rattle.std.specs.Prelude.{◌≡◌, ℕ, ◌+◌, ◌-◌, ◌%◌, ◌^◌
 use Rattle.std.proofs.Common.{sym, ◌∙◌, lt-ltb, le-ltb, ltb-true, ltb-false}
 use native.Mathlib.Omega.{arith}
 use Rattle.rules.specs.Choice.{pick, picked, passed, by, either}
-use Rattle.hex.specs.Hex.{digit_of, is_digit, value_of, digit_below, digit_low, digit_between, digit_high, digit_above}
+use Rattle.hex_digits.specs.Hex.{digit_of, is_digit, value_of, digit_below, digit_low, digit_between, digit_high, digit_above}
 
 -- as few tests as tell a digit from all else
 unfoldable pub mark_of : ℕ → ℕ

@@ -2,8 +2,8 @@
 use Rattle.std.specs.Prelude.{◌≡◌, ℕ, zero, suc, ◌+◌, ◌*◌, ◌/◌, ◌%◌, ◌<◌, List, slice_index, slice_index_or}
 use Rattle.std.proofs.Common.{◌∙◌, arith}
 use Rattle.std.proofs.Math.Nat.{add-zero}
-use Rattle.hex.specs.Rows.{Row}
-use Rattle.hex.specs.Swap.{swap, quotient, rest, swap_two_lem, swap_four_lem, swap_eight}
+use Rattle.hex_digits.specs.Rows.{Row}
+use Rattle.hex_digits.specs.Swap.{swap, quotient, rest, swap_two_lem, swap_four_lem, swap_eight}
 
 -- each of 128 digits is one
 abbrev pub Small : List ℕ → Type 0

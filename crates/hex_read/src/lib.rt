@@ -1,6 +1,6 @@
 // 128 hexadecimal digits read at once, as eight numbers, from any bytes.
 ghost use Rattle.std.specs.Prelude.{◌≡◌, ◌+◌, ◌*◌, ◌<◌, ◌≤◌, ◌&&◌, length, nat_lt};
-ghost use Rattle.hex.specs.Rows.{Row};
+ghost use Rattle.hex_digits.specs.Rows.{Row};
 ghost use Rattle.hex_read.specs.Marks.{mark_of};
 ghost use Rattle.hex_read.specs.Packed.{Small, pair_at, pair_of, byte_at, packed, low_two, low_four, low_first, word_at, word_of};
 ghost use Rattle.hex_read.specs.Many.{Digits, eight};
@@ -129,7 +129,7 @@ fn words(bs: &[u8; 64]) -> [u64; 8]
     let mut ys = [0u64; 8];
     let mut i: usize = 0;
     while i < 8 {
-        ys[i] = hex::swapped(low_first(bs, i * 8));
+        ys[i] = hex_digits::swapped(low_first(bs, i * 8));
         i += 1;
     }
     ys

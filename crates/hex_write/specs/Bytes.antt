@@ -5,7 +5,7 @@ use Prim.Native.Nat.{ℕ, zero, suc, ◌+◌, ◌-◌, ◌*◌, ◌/◌, ◌%◌
 use native.Mathlib.Omega.{arith}
 use Rattle.std.proofs.Math.ListN.{length-set}
 use Rattle.tools.specs.Laid.{laid}
-use Rattle.hex.specs.Swap.{swap, quotient, rest, swap_two_lem, swap_four_lem, swap_eight}
+use Rattle.hex_digits.specs.Swap.{swap, quotient, rest, swap_two_lem, swap_four_lem, swap_eight}
 
 -- n bytes of a number, the lowest first
 unfoldable pub low_bytes : ℕ → ℕ → List ℕ

@@ -4,8 +4,8 @@ use Rattle.std.proofs.Common.{sym, ◌∙◌, arith, add-one, length-append}
 use Rattle.std.proofs.Math.Path.{ap}
 use mathlib.Core.List.{List, [], ◌∷◌, ◌++◌, append_assoc}
 use Rattle.tools.specs.Laid.{laid, put, then, laid_append, length_laid, put_fits, put_not}
-use Rattle.hex.specs.Hex.{sign_of, in_hex, length_hex}
-use Rattle.hex.specs.Swap.{swap, quotient, rest}
+use Rattle.hex_digits.specs.Hex.{sign_of, in_hex, length_hex}
+use Rattle.hex_digits.specs.Swap.{swap, quotient, rest}
 use Rattle.hex_write.specs.Bytes.{low_bytes, four_of, swapped_bytes, mod_byte}
 
 -- the two signs of a byte

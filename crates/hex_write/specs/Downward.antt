@@ -4,7 +4,7 @@ use Rattle.std.proofs.Common.{sym, ap, ◌∙◌, add-zero, length-set}
 use native.Mathlib.Omega.{arith}
 use Rattle.std.proofs.lemmas.List.{set_comm}
 use Rattle.tools.specs.Laid.{laid, put, put_fits, put_not}
-use Rattle.hex.specs.Hex.{sign_of, in_hex, length_hex}
+use Rattle.hex_digits.specs.Hex.{sign_of, in_hex, length_hex}
 
 -- the last sign first, and the others before it
 laid_last : (t o : List ℕ) (i d : ℕ) → laid (set o (i + length t) d) i t ≡ laid o i (t ++ d ∷ [])

@@ -1,7 +1,7 @@
 // Numbers written in lower-case hexadecimal digits, where there is room for them.
 ghost use Rattle.std.specs.Prelude.{◌≡◌, [], ◌∷◌, ◌+◌, ◌<◌, ◌≤◌, length};
 ghost use Rattle.tools.specs.Laid.{laid, put};
-ghost use Rattle.hex.specs.Hex.{sign_of, in_hex};
+ghost use Rattle.hex_digits.specs.Hex.{sign_of, in_hex};
 ghost use Rattle.hex_write.specs.Bytes.{low_bytes, four_of};
 ghost use Rattle.hex_write.specs.Digits.{byte_text, bytes_text, four_text};
 
@@ -24,10 +24,10 @@ fn bytes_of(x0: u64, x1: u64, x2: u64, x3: u64) -> [u8; 32]
     ensures { result ≡ four_of x0 x1 x2 x3 }
 {
     let mut bs = [0u8; 32];
-    put_eight(&mut bs, 0, hex::swapped(x0));
-    put_eight(&mut bs, 8, hex::swapped(x1));
-    put_eight(&mut bs, 16, hex::swapped(x2));
-    put_eight(&mut bs, 24, hex::swapped(x3));
+    put_eight(&mut bs, 0, hex_digits::swapped(x0));
+    put_eight(&mut bs, 8, hex_digits::swapped(x1));
+    put_eight(&mut bs, 16, hex_digits::swapped(x2));
+    put_eight(&mut bs, 24, hex_digits::swapped(x3));
     bs
 }
 

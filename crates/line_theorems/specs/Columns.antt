@@ -12,7 +12,7 @@ use Rattle.outcomes.specs.declared.Came.{Came}
 use Rattle.outcomes.specs.declared.Came.TheVariants.{Told, Called}
 use Rattle.writing.specs.Decimal.{decimal_text}
 use Rattle.writing.specs.Put.{row, blanks}
-use Rattle.hex.specs.Signs.{signs}
+use Rattle.hex_digits.specs.Signs.{signs}
 use Rattle.words.specs.Words.{words, word_text}
 use Rattle.words.specs.Words as w
 use Rattle.phrases.specs.Sentence.{piece_of, ◌▹◌}

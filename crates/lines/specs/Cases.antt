@@ -1,7 +1,7 @@
 -- Lines of an input, worked out from the definitions.
 use Rattle.std.specs.Prelude.{◌≡◌, refl, [], ◌∷◌, map}
 use Rattle.rules.specs.Choice.{pick}
-use Rattle.hex.specs.Signs.{signs}
+use Rattle.hex_digits.specs.Signs.{signs}
 use Rattle.lines.specs.Lines.{lines_of, before}
 
 -- a newline ends a line, the last may lack it, and no input has no line

@@ -7,7 +7,7 @@ use Rattle.std.proofs.Math.Seq.{split_at}
 use Rattle.std.proofs.lemmas.Bool.{eqb-false}
 use Rattle.rules.specs.Choice.{pick, picked, passed, either, yes_or_no}
 use Rattle.tools.specs.Search.{all_at, first, first_goes, first_stops, first_ends, first_is, Firstly}
-use Rattle.hex.specs.Hex.{digit_of, digit_at, all_digits}
+use Rattle.hex_digits.specs.Hex.{digit_of, digit_at, all_digits}
 use Rattle.parsing.specs.Frame.{parsed, parsed_digits, other_parsed, no_digits}
 use Rattle.lines.specs.Quick.{Looked}
 use Rattle.parsing.specs.declared.Frame.{Frame}

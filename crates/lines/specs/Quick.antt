@@ -6,15 +6,15 @@ use Rattle.std.proofs.Math.Bool.{Bool, false}
 use mathlib.Core.List.{List}
 use Rattle.rules.specs.Choice.{pick, pick_yes, by, either, right_false, yes_or_no}
 use Rattle.tools.specs.Search.{all}
-use Rattle.hex.specs.Hex.{digit_at, all_digits}
-use Rattle.hex.specs.Read.{byte_of, byte_was}
+use Rattle.hex_digits.specs.Hex.{digit_at, all_digits}
+use Rattle.hex_digits.specs.Read.{byte_of, byte_was}
 use Rattle.hex_read.specs.Many.{eight, eight_was, eight_left}
 use Rattle.parsing.specs.Frame.{call_in, kind, frame_of, parsed, sized_yes, row, hex_line, call_parsed}
 use Rattle.parsing.specs.declared.Frame.TheVariants.{Call}
 use Rattle.lines.specs.declared.Look.{Look}
 use Rattle.lines.specs.declared.Look.TheVariants as Look
-use Rattle.hex.specs.declared.Byte.{Byte}
-use Rattle.hex.specs.declared.Byte.TheVariants.{Is}
+use Rattle.hex_digits.specs.declared.Byte.{Byte}
+use Rattle.hex_digits.specs.declared.Byte.TheVariants.{Is}
 
 -- a call is what is parsed; all else leaves the numbers, and it may be known that not all signs are digits
 abbrev pub Looked : List ℕ → List ℕ → Look → List ℕ → Type 0

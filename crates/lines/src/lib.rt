@@ -1,12 +1,12 @@
 // The lines of an input: where each ends, the frame at a place, and the line that lacks its newline.
 ghost use Rattle.std.specs.Prelude.{◌≡◌, false, ◌<◌, min, length};
 ghost use Rattle.lines.specs.Quick.{Looked};
-ghost use Rattle.hex.specs.Hex.{all_digits};
+ghost use Rattle.hex_digits.specs.Hex.{all_digits};
 ghost use Rattle.lines.specs.Lines.{end_of, part, next_of};
 ghost use Rattle.lines.specs.Front.{fronted};
 ghost use Rattle.lines.specs.Close.{closing};
 
-use hex::Byte;
+use hex_digits::Byte;
 use parsing::{Frame, MOST, Status};
 
 const NEWLINE: u8 = 10;
@@ -32,13 +32,13 @@ fn quick(line: &[u8], xs: &mut [u64; 8]) -> Look
     requires { length line.now ≡ 132 }
     ensures { Looked line.now xs.old result xs.new }
 {
-    let Byte::Is(first) = hex::byte_at(line, 0) else {
+    let Byte::Is(first) = hex_digits::byte_at(line, 0) else {
         return Look::Other;
     };
     if first != 0x20 {
         return Look::Other;
     }
-    let Byte::Is(core) = hex::byte_at(line, 1) else {
+    let Byte::Is(core) = hex_digits::byte_at(line, 1) else {
         return Look::Other;
     };
     if hex_read::numbers(line, 2, xs) {

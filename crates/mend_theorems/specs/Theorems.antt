@@ -7,7 +7,7 @@ use Rattle.std.proofs.Math.ListN.{get_or}
 use Rattle.std.proofs.Math.Seq.{get_or_at}
 use Rattle.std.proofs.lemmas.Bool.{eqb-false}
 use Rattle.rules.specs.Choice.{pick, pick_yes, pick_no, by, chosen, either}
-use Rattle.hex.specs.Hex.{in_hex}
+use Rattle.hex_digits.specs.Hex.{in_hex}
 use Rattle.parsing.specs.Frame.{status_byte}
 use Rattle.parsing.specs.declared.Status.TheVariants as Status
 use Rattle.lines.specs.Lines.{lines_of, lines_first}

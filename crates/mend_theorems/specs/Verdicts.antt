@@ -3,7 +3,7 @@ use Rattle.std.specs.Prelude.{◌≡◌, refl, true, false, List, ℕ, ◌*◌, 
 use Rattle.std.proofs.Common.{sym, ap, ◌∙◌, arith, eqb-true}
 use Rattle.std.proofs.Math.ListN.{length}
 use Rattle.rules.specs.Choice.{pick, chosen, either, yes_or_no}
-use Rattle.hex.specs.Hex.{all_digits, number}
+use Rattle.hex_digits.specs.Hex.{all_digits, number}
 use Rattle.parsing.specs.Frame.{no_hex, site_in, entry_in, name_in, call_in, arrival_in, sized, kind, frame_of, parsed, status_byte, no_digits}
 use Rattle.parsing.specs.declared.Status.{Status}
 use Rattle.parsing.specs.declared.Status.TheVariants as Status

@@ -2,8 +2,8 @@
 use Rattle.std.specs.Prelude.{◌≡◌, refl, List, [], ◌∷◌, ◌++◌, map, ℕ, replicate}
 use Rattle.rules.specs.Choice.{pick}
 use Rattle.tools.specs.Search.{all}
-use Rattle.hex.specs.Hex.{digit_of, all_digits, value, numbers}
-use Rattle.hex.specs.Signs.{signs}
+use Rattle.hex_digits.specs.Hex.{digit_of, all_digits, value, numbers}
+use Rattle.hex_digits.specs.Signs.{signs}
 use Rattle.parsing.specs.Frame.{no_hex, sized, kind, frame_of, numbers_of}
 use Rattle.parsing.specs.declared.Status.TheVariants.{NoHex, Unknown}
 use Rattle.parsing.specs.declared.Frame.{Frame}

@@ -7,7 +7,7 @@ use mathlib.Core.List.{List}
 use borrow.Author.Tests.{lt-ltb, le-ltb, eq-eqb, ne_eqb, eqb-true, eqb-false}
 use Rattle.rules.specs.Choice.{pick, pick_yes, pick_no, picked, passed, by, either, yes_or_no, first_or, second_or, neither, not_true, not_false}
 use Rattle.tools.specs.Search.{all, all_at, all_if}
-use Rattle.hex.specs.Hex.{digit_at, all_digits, number, numbers}
+use Rattle.hex_digits.specs.Hex.{digit_at, all_digits, number, numbers}
 use Rattle.hex_read.specs.Many.{eight}
 use Rattle.parsing.specs.declared.Status.{Status}
 use Rattle.parsing.specs.declared.Status.TheVariants.{Accepted, NoHex, Unknown, Misplaced, OutOfRange, Clash}

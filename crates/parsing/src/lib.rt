@@ -72,9 +72,9 @@ pub fn byte_of(s: Status) -> u64
 fn site(line: &[u8]) -> Frame
     ensures { result ≡ site_in line.now }
 {
-    let base = hex::number(line, 1, 8);
-    let pages = hex::number(line, 9, 2);
-    let cores = hex::number(line, 11, 1);
+    let base = hex_digits::number(line, 1, 8);
+    let pages = hex_digits::number(line, 9, 2);
+    let cores = hex_digits::number(line, 11, 1);
     Frame::Site { base, pages, cores }
 }
 
@@ -82,10 +82,10 @@ fn site(line: &[u8]) -> Frame
 fn entry(line: &[u8]) -> Frame
     ensures { result ≡ entry_in line.now }
 {
-    let first = hex::number(line, 1, 1);
-    let last = hex::number(line, 2, 1);
-    let kind = hex::number(line, 3, 1);
-    let handler = hex::number(line, 4, 1);
+    let first = hex_digits::number(line, 1, 1);
+    let last = hex_digits::number(line, 2, 1);
+    let kind = hex_digits::number(line, 3, 1);
+    let handler = hex_digits::number(line, 4, 1);
     Frame::Entry {
         first,
         last,
@@ -98,9 +98,9 @@ fn entry(line: &[u8]) -> Frame
 fn name(line: &[u8]) -> Frame
     ensures { result ≡ name_in line.now }
 {
-    let first = hex::number(line, 1, 2);
-    let count = hex::number(line, 3, 2);
-    let owner = hex::number(line, 5, 1);
+    let first = hex_digits::number(line, 1, 2);
+    let count = hex_digits::number(line, 3, 2);
+    let owner = hex_digits::number(line, 5, 1);
     Frame::Name {
         first,
         count,
@@ -112,7 +112,7 @@ fn name(line: &[u8]) -> Frame
 fn call(line: &[u8]) -> Frame
     ensures { result ≡ call_in line.now }
 {
-    let core = hex::number(line, 1, 1);
+    let core = hex_digits::number(line, 1, 1);
     Frame::Call { core }
 }
 
@@ -120,7 +120,7 @@ fn call(line: &[u8]) -> Frame
 fn arrival(line: &[u8]) -> Frame
     ensures { result ≡ arrival_in line.now }
 {
-    let core = hex::number(line, 1, 1);
+    let core = hex_digits::number(line, 1, 1);
     Frame::Arrival { core }
 }
 
@@ -138,7 +138,7 @@ fn sized(line: &[u8], bytes: u8, frame: Frame) -> Frame
 fn known_frame(line: &[u8]) -> Frame
     ensures { result ≡ known line.now }
 {
-    let first = hex::number(line, 0, 1);
+    let first = hex_digits::number(line, 0, 1);
     match first {
         0x11 => sized(line, 12, site(line)),
         0x10 => sized(line, 5, entry(line)),
@@ -164,7 +164,7 @@ fn frame_of(line: &[u8]) -> Frame
     if MOST < n {
         return Frame::Refused(Status::NoHex);
     }
-    if hex::all_digits(line) {
+    if hex_digits::all_digits(line) {
         return known_frame(line);
     }
     Frame::Refused(Status::NoHex)

@@ -1,8 +1,8 @@
 -- Sentences and their text, worked out from the definitions: columns on either side of what stands before them, short and long numbers, and lines with short and long numbers of their own.
 use Rattle.std.specs.Prelude.{◌≡◌, refl, ◌++◌}
 use Rattle.rules.specs.Choice.{pick}
-use Rattle.hex.specs.Hex.{in_hex, sign_of}
-use Rattle.hex.specs.Signs.{signs}
+use Rattle.hex_digits.specs.Hex.{in_hex, sign_of}
+use Rattle.hex_digits.specs.Signs.{signs}
 use Rattle.writing.specs.Decimal.{in_decimal}
 use Rattle.writing.specs.Put.{row, blanks}
 use Rattle.words.specs.Words.{words, word_text}

@@ -8,7 +8,7 @@ use Rattle.std.proofs.Math.ListN.{length, length-append}
 use Rattle.std.proofs.lemmas.Bool.{lt-leb}
 use Rattle.rules.specs.Choice.{pick, picked, passed, chosen}
 use Rattle.tools.specs.Laid.{laid, put, laid_append, put_fits}
-use Rattle.hex.specs.Hex.{in_hex, length_hex}
+use Rattle.hex_digits.specs.Hex.{in_hex, length_hex}
 use Rattle.hex_write.specs.Put.{Laid, was_put, put_then}
 use Rattle.writing.specs.Decimal.{decimal_text, decimal_short}
 use Rattle.writing.specs.Put.{blanks, length_blanks}

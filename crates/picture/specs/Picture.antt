@@ -11,7 +11,7 @@ use Rattle.std.proofs.Math.ListN.{length, get_or-eq_default, length-append}
 use borrow.Author.Tests.{lt-ltb, le-ltb, le-leb, lt-leb, ltb-true, eqb-true, eqb-false}
 use Rattle.rules.specs.Choice.{pick, picked, passed, pick_yes, chosen, either}
 use Rattle.tools.specs.Laid.{laid, put, put_fits}
-use Rattle.hex.specs.Signs.{signs}
+use Rattle.hex_digits.specs.Signs.{signs}
 use Rattle.hex_write.specs.Put.{Laid, was_put, put_then}
 use Rattle.pages.specs.Owners.{owner}
 use Rattle.pages.specs.declared.Window.{Window}

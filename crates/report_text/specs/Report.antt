@@ -5,7 +5,7 @@ use Rattle.std.proofs.Common.{sym, ap, ◌∙◌, add-one, arith, length-append,
 use mathlib.Core.List.{List, [], ◌∷◌, ◌++◌}
 use Rattle.rules.specs.Choice.{pick, pick_yes, pick_no, chosen}
 use Rattle.tools.specs.Laid.{laid, put, put_not, put_fits, laid_append}
-use Rattle.hex.specs.Hex.{in_hex, length_hex}
+use Rattle.hex_digits.specs.Hex.{in_hex, length_hex}
 use Rattle.hex_write.specs.Put.{put_then, put_three, was_put}
 use Rattle.tallies.specs.Rows.{rows, answer_at}
 use Rattle.tallies.specs.Tally.{places, count_at, over}

@@ -2,7 +2,7 @@
 use Rattle.std.specs.Prelude.{◌≡◌, refl, Bool, true, false, ◌&&◌, List, [], ◌∷◌, ℕ, ◌+◌, ◌-◌, ◌/◌, ◌%◌, ◌<◌, min, ltb, eqb, length}
 use Rattle.std.proofs.Common.{ap, ◌∙◌, arith, eqb-true}
 use Rattle.rules.specs.Choice.{pick, pick_yes, pick_no, by, either, left_true, right_true}
-use Rattle.hex.specs.Hex.{digit_of, all_digits, value}
+use Rattle.hex_digits.specs.Hex.{digit_of, all_digits, value}
 use Rattle.tools.specs.Search.{all}
 use Rattle.tools.specs.Store.{read}
 use Rattle.parsing.specs.Frame.{no_hex, sized, kind, frame_of, parsed_frame}

@@ -8,7 +8,7 @@ use Rattle.std.proofs.Math.ListN.{get_or, length-set}
 use Rattle.rules.specs.Lent.{Lent}
 use Rattle.rules.specs.Choice.{pick, picked, passed}
 use Rattle.tools.specs.Laid.{laid, put, put_fits, put_not}
-use Rattle.hex.specs.Hex.{in_hex, length_hex}
+use Rattle.hex_digits.specs.Hex.{in_hex, length_hex}
 use Rattle.hex_write.specs.Put.{put_then, put_three}
 
 -- at most so many lines are mended

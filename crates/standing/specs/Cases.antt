@@ -2,8 +2,8 @@
 use Rattle.std.specs.Prelude.{◌≡◌, refl, ◌++◌}
 use Rattle.rules.specs.Choice.{pick}
 use Rattle.cores.specs.Power.{power_of, off, pending, on, is_on, is_pending}
-use Rattle.hex.specs.Hex.{in_hex, sign_of}
-use Rattle.hex.specs.Signs.{signs}
+use Rattle.hex_digits.specs.Hex.{in_hex, sign_of}
+use Rattle.hex_digits.specs.Signs.{signs}
 use Rattle.writing.specs.Decimal.{in_decimal}
 use Rattle.writing.specs.Put.{row, blanks}
 use Rattle.words.specs.Words.{words, word_text}

@@ -1,8 +1,8 @@
 -- Answers and their text, worked out from the definitions: those of the paper, and a core that went OFF.
 use Rattle.std.specs.Prelude.{◌≡◌, refl, ◌++◌}
 use Rattle.rules.specs.Choice.{pick}
-use Rattle.hex.specs.Hex.{sign_of, in_hex}
-use Rattle.hex.specs.Signs.{signs}
+use Rattle.hex_digits.specs.Hex.{sign_of, in_hex}
+use Rattle.hex_digits.specs.Signs.{signs}
 use Rattle.hex_write.specs.Digits.{four_text}
 use Rattle.parsing.specs.declared.Status.TheVariants.{Accepted, Clash}
 use Rattle.text.specs.Text.{head_text, status_text, call_text}

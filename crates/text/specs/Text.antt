@@ -4,7 +4,7 @@ use Rattle.std.proofs.Math.Path.{refl}
 use Rattle.std.proofs.Common.{length-append}
 use Rattle.tools.specs.Laid.{put, put_not}
 use Rattle.hex_write.specs.Put.{put_three}
-use Rattle.hex.specs.Hex.{in_hex, length_hex}
+use Rattle.hex_digits.specs.Hex.{in_hex, length_hex}
 use Rattle.hex_write.specs.Digits.{four_text, length_four}
 use Rattle.parsing.specs.Frame.{status_byte}
 use Rattle.parsing.specs.declared.Status.{Status}

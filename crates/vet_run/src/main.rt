@@ -58,7 +58,7 @@ fn put(numbers: &mut Numbers, at: u64, v: u64) {
 // A digit, or the space behind a number.
 fn read(desk: Desk, sign: u8) -> Desk {
     let mut next = desk;
-    let d = tools::wide(hex::digit(sign)) % 32;
+    let d = tools::wide(hex_digits::digit(sign)) % 32;
     if d < 16 {
         next.value = desk.value % 0x1000000000000000 * 16 + d;
     }

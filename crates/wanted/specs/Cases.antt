@@ -3,8 +3,8 @@ use Rattle.std.specs.Prelude.{◌≡◌, refl, List, [], ◌∷◌, map}
 use Prim.Native.String.{String}
 use Rattle.rules.specs.Choice.{pick}
 use Rattle.tools.specs.Search.{all}
-use Rattle.hex.specs.Hex.{digit_of, all_digits, value}
-use Rattle.hex.specs.Signs.{signs}
+use Rattle.hex_digits.specs.Hex.{digit_of, all_digits, value}
+use Rattle.hex_digits.specs.Signs.{signs}
 use Rattle.wanted.specs.declared.Wanted.{Wanted}
 use Rattle.wanted.specs.declared.Wanted.TheVariants.{Map, Page, Unknown}
 use Rattle.wanted.specs.Wanted.{is_map, has_prefix, address_by, wanted_by}

@@ -6,7 +6,7 @@ use Rattle.std.proofs.Math.ListN.{length-drop}
 use Rattle.std.proofs.Math.Seq.{take_all}
 use borrow.Author.Tests.{eq-eqb, ne_eqb, le-leb, lt-leb}
 use Rattle.rules.specs.Choice.{pick, picked, passed, left_false, right_false, both_true}
-use Rattle.hex.specs.Hex.{digit_of, all_digits, value}
+use Rattle.hex_digits.specs.Hex.{digit_of, all_digits, value}
 use Rattle.wanted.specs.declared.Wanted.{Wanted}
 use Rattle.wanted.specs.declared.Wanted.TheVariants.{Map, Page, Unknown}
 

@@ -1,7 +1,7 @@
 // What somebody wants to see of a run, from the word behind the program's name: `map`, or an address in hexadecimal digits,
 // with or without 0x.
 ghost use Rattle.std.specs.Prelude.{◌≡◌, ◌≤◌, ◌<◌, length, get_or};
-ghost use Rattle.hex.specs.Hex.{digit_of, value};
+ghost use Rattle.hex_digits.specs.Hex.{digit_of, value};
 ghost use Rattle.wanted.specs.Wanted.{is_map, has_prefix, address_by, wanted_by};
 
 #[derive(Drop)]
@@ -45,7 +45,7 @@ fn digit_at(digits: &[u8], i: usize) -> u64
     requires { i < length digits.now }
     ensures { result ≡ digit_of (get_or digits.now i 0) }
 {
-    tools::wide(hex::digit(digits[i]))
+    tools::wide(hex_digits::digit(digits[i]))
 }
 
 // The number that at most sixteen digits stand for.
@@ -73,7 +73,7 @@ fn address_by(digits: &[u8]) -> Wanted
     if 16 < digits.len() {
         return Wanted::Unknown;
     }
-    if hex::all_digits(digits) {
+    if hex_digits::all_digits(digits) {
         return Wanted::Page(number(digits));
     }
     Wanted::Unknown

@@ -9,7 +9,7 @@ use Rattle.std.proofs.Math.ListN.{get_or-eq_default}
 use Rattle.std.proofs.Math.Seq.{drop-append-add}
 use Rattle.rules.specs.Choice.{left_true, right_true, chosen}
 use Rattle.tools.specs.Laid.{put, laid}
-use Rattle.hex.specs.Signs.{signs}
+use Rattle.hex_digits.specs.Signs.{signs}
 use Rattle.words.specs.Words.{words, many, word_text}
 
 -- one behind the other

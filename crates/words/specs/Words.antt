@@ -1,7 +1,7 @@
 -- The one table of words: what each says, and the name under which sentences cite it.
 use Rattle.std.specs.Prelude.{List, [], ◌∷◌, ℕ, get_or}
 use Prim.Native.String.{String}
-use Rattle.hex.specs.Signs.{signs}
+use Rattle.hex_digits.specs.Signs.{signs}
 
 unfoldable pub words : List String
 words =

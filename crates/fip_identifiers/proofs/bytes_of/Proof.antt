@@ -1,6 +1,6 @@
 -- `bytes_of` meets its promise, since each pass fills one place more by the rule.
 use Prim.Native.Nat.{◌-◌}
-use Rattle.hex.specs.Rows.{Filled, filling}
+use Rattle.hex_digits.specs.Rows.{Filled, filling}
 use Rattle.fip_identifiers.specs.Identifiers.{byte_at, byte_at_lem, filled_bytes}
 use borrow.Author.Rules.{rules}
 use Rattle.fip_identifiers.proofs.bytes_of.Statement.{statement}

@@ -1,5 +1,5 @@
 -- `sign` meets its promise, since digits below ten and the others have a run of signs each.
-use Rattle.hex.specs.Hex.{sign_low, sign_high}
+use Rattle.hex_digits.specs.Hex.{sign_low, sign_high}
 use borrow.Author.Rules.{rules}
 use Rattle.fip_identifiers.proofs.sign.Statement.{statement}
 use Rattle.fip_identifiers.proofs.sign.Tie as tie

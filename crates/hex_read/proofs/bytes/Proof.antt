@@ -1,6 +1,6 @@
 -- `hex_read::bytes` meets its promise: each pass fills one place more by the rule.
 use Rattle.std.proofs.Common.{◌-◌, rules}
-use Rattle.hex.specs.Rows.{Filled, filling}
+use Rattle.hex_digits.specs.Rows.{Filled, filling}
 use Rattle.hex_read.specs.Packed.{byte_at}
 use Rattle.hex_read.proofs.bytes.Statement.{statement}
 use Rattle.hex_read.proofs.bytes.Tie as tie

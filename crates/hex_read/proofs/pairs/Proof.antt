@@ -1,6 +1,6 @@
 -- `hex_read::pairs` meets its promise: each pass fills one place more by the rule.
 use Rattle.std.proofs.Common.{◌-◌, rules}
-use Rattle.hex.specs.Rows.{Filled, filling}
+use Rattle.hex_digits.specs.Rows.{Filled, filling}
 use Rattle.hex_read.specs.Packed.{pair_at}
 use Rattle.hex_read.proofs.pairs.Statement.{statement}
 use Rattle.hex_read.proofs.pairs.Tie as tie

@@ -1,6 +1,6 @@
 -- `hex_read::words` meets its promise: each pass fills one place more by the rule.
 use Rattle.std.proofs.Common.{◌-◌, rules}
-use Rattle.hex.specs.Rows.{Filled, filling}
+use Rattle.hex_digits.specs.Rows.{Filled, filling}
 use Rattle.hex_read.specs.Packed.{word_at, word_is}
 use Rattle.hex_read.proofs.words.Statement.{statement}
 use Rattle.hex_read.proofs.words.Tie as tie

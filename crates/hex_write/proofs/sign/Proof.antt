@@ -1,6 +1,6 @@
 -- `hex_write::sign` meets its promise: digits below ten and the others have a run of signs each.
 use borrow.Author.Rules.{rules}
-use Rattle.hex.specs.Hex.{sign_low, sign_high}
+use Rattle.hex_digits.specs.Hex.{sign_low, sign_high}
 use Rattle.hex_write.proofs.sign.Statement.{statement}
 use Rattle.hex_write.proofs.sign.Tie as tie
 

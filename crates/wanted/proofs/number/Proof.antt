@@ -1,7 +1,7 @@
 -- Each pass takes in one digit more, and sixteen fit 64 bits.
 use borrow.Author.Rules.{rules}
 use Prim.Native.Nat.{◌-◌}
-use Rattle.hex.specs.Read.{Read, reading}
+use Rattle.hex_digits.specs.Read.{Read, reading}
 use Rattle.wanted.specs.Wanted.{digit_here}
 use Rattle.wanted.proofs.number.Statement.{statement}
 use Rattle.wanted.proofs.number.Tie as tie

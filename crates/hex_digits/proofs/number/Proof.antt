@@ -1,9 +1,9 @@
--- `hex::number` meets its promise: each pass takes in one sign more, and sixteen fit 64 bits.
+-- `hex_digits::number` meets its promise: each pass takes in one sign more, and sixteen fit 64 bits.
 use Prim.Native.Nat.{◌-◌}
 use borrow.Author.Rules.{rules}
-use Rattle.hex.specs.Read.{Read, reading}
-use Rattle.hex.proofs.number.Statement.{statement}
-use Rattle.hex.proofs.number.Tie as tie
+use Rattle.hex_digits.specs.Read.{Read, reading}
+use Rattle.hex_digits.proofs.number.Statement.{statement}
+use Rattle.hex_digits.proofs.number.Tie as tie
 
 abbrev invariant-loop : tie.invariant-loop
 invariant-loop line k n at size x₀ i₀ x i = Read line at size i x

@@ -1,8 +1,8 @@
 // Lower-case hexadecimal digits, read one by one from any bytes, and what reading and writing many of them share.
 ghost use Rattle.std.specs.Prelude.{◌≡◌, ◌*◌, ◌<◌, ◌≤◌, min, get_or};
-ghost use Rattle.hex.specs.Hex.{digit_of, all_digits, number};
-ghost use Rattle.hex.specs.Read.{byte_of};
-ghost use Rattle.hex.specs.Swap.{swap_two, swap_four, swap};
+ghost use Rattle.hex_digits.specs.Hex.{digit_of, all_digits, number};
+ghost use Rattle.hex_digits.specs.Read.{byte_of};
+ghost use Rattle.hex_digits.specs.Swap.{swap_two, swap_four, swap};
 
 // The byte that two signs stand for, or that they are no digits.
 #[derive(Drop)]

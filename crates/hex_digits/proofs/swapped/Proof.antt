@@ -1,8 +1,8 @@
--- `hex::swapped` meets its promise: its sum is that of `swap`, and fits 64 bits.
+-- `hex_digits::swapped` meets its promise: its sum is that of `swap`, and fits 64 bits.
 use borrow.Author.Rules.{rules}
-use Rattle.hex.specs.Swap.{swap}
-use Rattle.hex.proofs.swapped.Statement.{statement}
-use Rattle.hex.proofs.swapped.Tie as tie
+use Rattle.hex_digits.specs.Swap.{swap}
+use Rattle.hex_digits.proofs.swapped.Statement.{statement}
+use Rattle.hex_digits.proofs.swapped.Tie as tie
 
 swapped-four-requires : tie.Need-swapped-four-requires
 swapped-four-requires c κs = search rules

@@ -1,9 +1,9 @@
--- `hex::digit` meets its promise: its branches are the ranges of the digits.
+-- `hex_digits::digit` meets its promise: its branches are the ranges of the digits.
 use mathlib.Core.Path.{sym}
 use borrow.Author.Rules.{rules}
-use Rattle.hex.specs.Hex.{digit_below, digit_low, digit_between, digit_high, digit_above}
-use Rattle.hex.proofs.digit.Statement.{statement}
-use Rattle.hex.proofs.digit.Tie as tie
+use Rattle.hex_digits.specs.Hex.{digit_below, digit_low, digit_between, digit_high, digit_above}
+use Rattle.hex_digits.proofs.digit.Statement.{statement}
+use Rattle.hex_digits.proofs.digit.Tie as tie
 
 returns : tie.Need-returns
 returns c = sym (digit_below _ (search rules))

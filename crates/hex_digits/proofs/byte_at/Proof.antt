@@ -1,8 +1,8 @@
--- `hex::byte_at` meets its promise: each sign is asked for, and two digits are a byte.
+-- `hex_digits::byte_at` meets its promise: each sign is asked for, and two digits are a byte.
 use borrow.Author.Rules.{rules}
-use Rattle.hex.specs.Read.{bytes}
-use Rattle.hex.proofs.byte_at.Statement.{statement}
-use Rattle.hex.proofs.byte_at.Tie as tie
+use Rattle.hex_digits.specs.Read.{bytes}
+use Rattle.hex_digits.proofs.byte_at.Statement.{statement}
+use Rattle.hex_digits.proofs.byte_at.Tie as tie
 
 mul_at : tie.Need-overflow-mul-at
 mul_at c = search rules

@@ -1,8 +1,8 @@
--- `hex::digit_at` meets its promise: past the end there is no digit.
+-- `hex_digits::digit_at` meets its promise: past the end there is no digit.
 use borrow.Author.Rules.{rules}
-use Rattle.hex.specs.Read.{digit_past, digit_same, digit_few}
-use Rattle.hex.proofs.digit_at.Statement.{statement}
-use Rattle.hex.proofs.digit_at.Tie as tie
+use Rattle.hex_digits.specs.Read.{digit_past, digit_same, digit_few}
+use Rattle.hex_digits.proofs.digit_at.Statement.{statement}
+use Rattle.hex_digits.proofs.digit_at.Tie as tie
 
 shared-slice-read-digit : tie.Need-shared-slice-read-digit
 shared-slice-read-digit c = search rules

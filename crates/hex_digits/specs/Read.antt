@@ -9,9 +9,9 @@ use Rattle.std.specs.Int.{w64}
 use Rattle.std.proofs.Math.ListN.{length, get_or-eq_default}
 use Rattle.rules.specs.Choice.{pick, picked, passed, by, left_false, right_false, both_true}
 use Rattle.tools.specs.Search.{all, all_goes, all_stops, all_ends}
-use Rattle.hex.specs.Hex.{digit_of, digit_at, all_digits, value, number, digit_most}
-use Rattle.hex.specs.declared.Byte.{Byte}
-use Rattle.hex.specs.declared.Byte.TheVariants.{Is, NoDigits}
+use Rattle.hex_digits.specs.Hex.{digit_of, digit_at, all_digits, value, number, digit_most}
+use Rattle.hex_digits.specs.declared.Byte.{Byte}
+use Rattle.hex_digits.specs.declared.Byte.TheVariants.{Is, NoDigits}
 
 -- byte k of a line, where its two signs are digits
 unfoldable pub byte_of : List ℕ → ℕ → Byte

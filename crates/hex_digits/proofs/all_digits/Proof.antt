@@ -1,10 +1,10 @@
--- `hex::all_digits` meets its promise: each pass passes a sign whose mark is a digit's, and the first other ends it.
+-- `hex_digits::all_digits` meets its promise: each pass passes a sign whose mark is a digit's, and the first other ends it.
 use Prim.Native.Nat.{◌≤◌, ◌-◌}
 use borrow.Author.Rules.{rules}
 use lib.ListN.{length}
-use Rattle.hex.specs.Read.{Left, digits_left}
-use Rattle.hex.proofs.all_digits.Statement.{statement}
-use Rattle.hex.proofs.all_digits.Tie as tie
+use Rattle.hex_digits.specs.Read.{Left, digits_left}
+use Rattle.hex_digits.proofs.all_digits.Statement.{statement}
+use Rattle.hex_digits.proofs.all_digits.Tie as tie
 
 abbrev invariant-loop : tie.invariant-loop
 invariant-loop line i₀ i = (i ≤ length line) × Left line i
