@@ -1,4 +1,6 @@
 // The sentence for each thing that is told in the end.
+#![tactic(auto)]
+
 ghost use Rattle.std.specs.Prelude.{◌≡◌};
 ghost use Rattle.accounts.specs.Accounts.{core_told, range_told, held_told, said, page_end, page_told};
 

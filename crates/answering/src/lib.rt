@@ -1,4 +1,6 @@
 // One frame, and the text of its answer.
+#![tactic(auto)]
+
 ghost use Rattle.std.specs.Prelude.{◌≡◌};
 ghost use Rattle.tools.specs.Laid.{put};
 ghost use Rattle.frames.specs.Frames.{Machine, on_machine};

@@ -1,4 +1,6 @@
 // Handler 0: the version, and which of these calls there are.
+#![tactic(auto)]
+
 ghost use Rattle.std.specs.Prelude.{◌≡◌};
 ghost use Rattle.judgements.specs.Judge.{affirmed, one_of, architecture_calls, asked, featuring, architecture};
 ghost use Rattle.judgements.specs.Read.{args_by};

@@ -1,4 +1,6 @@
 // The words by which a program over tables is asked: a world's name, and a number in decimal digits.
+#![tactic(auto)]
+
 ghost use Rattle.std.specs.Prelude.{◌≡◌, ◌≤◌, get_or};
 ghost use Rattle.arguments.specs.Words.{is_word, world_of, digit_of, capped, counted};
 

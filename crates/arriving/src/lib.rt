@@ -1,4 +1,6 @@
 // Frame 21: a pending core arrives.
+#![tactic(auto)]
+
 ghost use Rattle.std.specs.Prelude.{◌≡◌};
 ghost use Rattle.cores.specs.Power.{is_pending};
 ghost use Rattle.cores.specs.Cores.{power};

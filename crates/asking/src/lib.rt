@@ -1,4 +1,6 @@
 // What a call asks, in words: a row of one table for each call, and the same sentence for every row.
+#![tactic(auto)]
+
 ghost use Rattle.std.specs.Prelude.{◌≡◌, ◌<◌};
 ghost use Rattle.asking.specs.Names.{named_from, named, counted};
 ghost use Rattle.asking.specs.Forms.{key_at, row_at, form, register, valued, slot, slots, asked, done_word};

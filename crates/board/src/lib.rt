@@ -1,4 +1,6 @@
 // Handler 1: the board's own calls.
+#![tactic(auto)]
+
 ghost use Rattle.std.specs.Prelude.{◌≡◌};
 ghost use Rattle.mapping.specs.Lists.{held};
 ghost use Rattle.pages.specs.Window.{page_of};

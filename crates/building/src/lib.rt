@@ -1,4 +1,6 @@
 // Builds the tables of a world's mappings into lent numbers: all of them, or none where they do not fit.
+#![tactic(auto)]
+
 ghost use Rattle.std.specs.Prelude.{◌≡◌, ◌+◌, ◌*◌, ◌≤◌, ◌<◌, set};
 ghost use Rattle.tools.specs.Laid.{laid};
 ghost use Rattle.mapping.specs.Lists.{held};

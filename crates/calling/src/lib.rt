@@ -1,4 +1,6 @@
 // Frame 20: a call on a core, refused as a frame or made, and what is shown after it.
+#![tactic(auto)]
+
 ghost use Rattle.std.specs.Prelude.{◌≡◌};
 ghost use Rattle.cores.specs.Power.{is_on};
 ghost use Rattle.cores.specs.Cores.{power};

@@ -1,4 +1,6 @@
 // The two system calls: standard input is read behind bytes that wait, and bytes are written to standard output.
+#![tactic(auto)]
+
 ghost use Rattle.std.specs.Prelude.{◌≡◌, true, ◌≤◌, length};
 ghost use Rattle.channels.specs.Filled.{Filled};
 

@@ -1,3 +1,5 @@
+#![tactic(auto)]
+
 // The run of examples/claim, asked for the picture of its window.
 fn main() {
     explanations::run();

@@ -1,3 +1,5 @@
+#![tactic(auto)]
+
 // The run of examples/claim, asked for the history of the page at 80030000.
 fn main() {
     explanations::run();

@@ -1,5 +1,7 @@
 // The loop of reads and writes: standard input to standard output, each line answered as soon as it has been read, or to no
 // output at all, where only what the run leaves is asked for.
+#![tactic(auto)]
+
 ghost use Rattle.std.specs.Prelude.{◌≡◌, true};
 ghost use Rattle.frames.specs.Frames.{on_machine};
 ghost use Rattle.inputs.specs.Monitor.{Ran, Left};

@@ -6,6 +6,8 @@
 // Numbers are hexadecimal, and COUNT*VALUE stands for so many equal ones; 0*0 is an empty space. A line of the output has the name,
 // the status and what it stands for, and both spaces as they are then. There is room for 65536 bytes of input, and for 4352 places
 // in each space; a line with more, or of another kind, is no conversion.
+#![tactic(auto)]
+
 mod reading;
 mod spaces;
 

@@ -1,4 +1,6 @@
 // Converts the owners of pages from the old table, a byte each, to marks, sixteen in a number, and back: all of them or none.
+#![tactic(auto)]
+
 ghost use Rattle.std.specs.Prelude.{◌≡◌};
 ghost use Rattle.conversions.specs.Conversions.{cramped, packed, unpacked};
 

@@ -1,4 +1,6 @@
 // One core's power and its turn, by value, and the tables that hold them for eight cores. The definitions stand in specs/.
+#![tactic(auto)]
+
 ghost use Rattle.std.specs.Prelude.{◌≡◌, ◌≤◌};
 ghost use Rattle.cores.specs.Power.{is_on, is_pending, put, started, gone_off, arrived, arrival_of, handed, finished, entered};
 ghost use Rattle.cores.specs.Count.{bit};

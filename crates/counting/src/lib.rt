@@ -1,4 +1,6 @@
 // A line of a report: accepted calls are noted, and a line of `00` makes all fresh but the counts.
+#![tactic(auto)]
+
 ghost use Rattle.std.specs.Prelude.{◌≡◌};
 ghost use Rattle.calls.specs.Step.{State, on_state};
 ghost use Rattle.judgements.specs.Judge.{called_by};

@@ -1,4 +1,6 @@
 // What each deed does.
+#![tactic(auto)]
+
 ghost use Rattle.std.specs.Prelude.{◌≡◌};
 ghost use Rattle.registers.specs.Registers.{saving};
 ghost use Rattle.rules.specs.Sizes.{normal};

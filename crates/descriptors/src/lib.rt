@@ -1,5 +1,7 @@
 // One number of a table: what it spans, what it says, and the numbers that say it. A level is known by how many levels are
 // below it: 0 for pages, 1 for slots of 2 MiB, 2 for GiBs.
+#![tactic(auto)]
+
 ghost use Rattle.std.specs.Prelude.{◌≡◌, ◌/◌, ◌%◌, ◌<◌, ◌≤◌};
 ghost use Rattle.descriptors.specs.Numbers.{span, kind_of, base_of, attr_of, leaf_number, table_number};
 ghost use Rattle.descriptors.specs.Meaning.{is_table, leaf_at, proper, reserved, meaning};

@@ -1,3 +1,5 @@
+#![tactic(auto)]
+
 // The frame program on a stored run: a ledger that sends pairs to other handlers than usual.
 fn main() {
     console::run(true);

@@ -1,4 +1,6 @@
 // The end of an explanation, part after part: as many of its lines as surely fit are put into a space, and the rest waits.
+#![tactic(auto)]
+
 ghost use Rattle.std.specs.Prelude.{◌≡◌, ◌+◌};
 ghost use Rattle.phrases.specs.Text.{told};
 ghost use Rattle.endings.specs.Ending.{legend_said};

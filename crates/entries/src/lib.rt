@@ -1,4 +1,6 @@
 // What stands in an entry of a table, by the list of mappings and the addresses that the entry covers.
+#![tactic(auto)]
+
 ghost use Rattle.std.specs.Prelude.{◌≡◌, ◌<◌, ◌≤◌, ◌&&◌};
 ghost use Rattle.mapping.specs.Lists.{held};
 ghost use Rattle.mapping.specs.Mapping.{deciding};

@@ -1,4 +1,6 @@
 // The loop of an explanation: standard input to standard output, each line told in words as soon as it has been read.
+#![tactic(auto)]
+
 ghost use Rattle.std.specs.Prelude.{◌≡◌, true};
 ghost use Rattle.frames.specs.Frames.{Machine, on_machine};
 ghost use Rattle.explain_reads.specs.Reading.{Ran};

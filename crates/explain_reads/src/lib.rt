@@ -1,4 +1,6 @@
 // The run over any bytes: each complete line of a read is told in words, and what is unfinished waits for more.
+#![tactic(auto)]
+
 ghost use Rattle.std.specs.Prelude.{◌≡◌};
 ghost use Rattle.frames.specs.Frames.{Machine, on_machine};
 ghost use Rattle.lines.specs.Input.{reading};

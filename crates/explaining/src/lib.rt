@@ -1,4 +1,6 @@
 // One line of a run: it is taken, and told in words behind those of the lines before it.
+#![tactic(auto)]
+
 ghost use Rattle.std.specs.Prelude.{◌≡◌};
 ghost use Rattle.frames.specs.Frames.{Machine, on_machine};
 ghost use Rattle.origins.specs.Lines.{lines_in};

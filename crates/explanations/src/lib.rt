@@ -1,4 +1,6 @@
 // A whole explanation: the lines of standard input in words, and how things stand behind them.
+#![tactic(auto)]
+
 ghost use Rattle.std.specs.Prelude.{◌≡◌, true};
 ghost use Rattle.explanations.specs.Ended.{Ended};
 

@@ -1,5 +1,7 @@
 // Two finishes on one core, by Secure and by Realm: all nine numbers of Normal and of the finisher before and after each. No frame
 // shows Normal's x4, since the next call of the core writes all eight.
+#![tactic(auto)]
+
 use calls::Site;
 use cores::{Powers, Turns};
 use ledger::Ledger;

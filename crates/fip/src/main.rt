@@ -1,4 +1,6 @@
 // Lists the images of a firmware package: fip FILE. Writes one of them to standard output: fip FILE IDENTIFIER.
+#![tactic(auto)]
+
 use libc::{STDERR_FILENO, STDOUT_FILENO};
 
 // One byte more than a package has at most, so that a longer file is seen to be one.

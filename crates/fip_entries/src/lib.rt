@@ -1,5 +1,7 @@
 // What reader and writer of a firmware package share: the statuses, the sizes of the format, and an entry of 40 bytes: the
 // identifier of an image, then its offset, its size and its flags. An entry that is not there reads as zero.
+#![tactic(auto)]
+
 mod numbers;
 
 ghost use Rattle.std.specs.Prelude.{◌≡◌, ◌+◌, ◌*◌, ◌<◌};

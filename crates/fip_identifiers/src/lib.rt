@@ -1,4 +1,6 @@
 // Identifiers as text: sixteen bytes in lower-case digits, grouped 8-4-4-4-12.
+#![tactic(auto)]
+
 ghost use Rattle.std.specs.Prelude.{◌≡◌, ◌+◌, ◌*◌, ◌≤◌, ◌<◌, length, get_or, [], ◌∷◌};
 ghost use Rattle.fip_entries.specs.Entries.{entry};
 ghost use Rattle.tools.specs.Laid.{laid};

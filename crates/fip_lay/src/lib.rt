@@ -1,4 +1,6 @@
 // Bytes, numbers and entries laid over other bytes. What would lie past the end of those is left out.
+#![tactic(auto)]
+
 ghost use Rattle.std.specs.Prelude.{◌≡◌, ◌+◌, ◌<◌, ◌++◌, get_or};
 ghost use Rattle.tools.specs.Laid.{laid};
 ghost use Rattle.fip_entries.specs.Entries.{entry};

@@ -1,6 +1,8 @@
 // A plan names the images of a package in their order, 40 bytes each: exactly as many as there are images, since an entry that is
 // left zero is refused, and bytes behind the last whole entry are not read. An entry is that of a package's table, but its offset
 // counts from the first of the image bytes that are lent, and no end entry belongs to it.
+#![tactic(auto)]
+
 ghost use Rattle.std.specs.Prelude.{◌≡◌};
 ghost use Rattle.fip_plan.specs.Plan.{total, capped, planned_at, weighed};
 

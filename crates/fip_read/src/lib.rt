@@ -1,4 +1,6 @@
 // Reads a firmware package that the caller lends: whether it is sound, what its table holds, and where an image lies.
+#![tactic(auto)]
+
 ghost use Rattle.std.specs.Prelude.{◌≡◌, ◌≤◌, length, drop};
 ghost use Rattle.fip_read.specs.Reading.{wrong_length, wrong_header, judged, tabled, located, status_of, part_of, address_of};
 

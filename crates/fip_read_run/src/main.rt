@@ -1,4 +1,6 @@
 // Asks packages on both sides of each rule for an image: a line of the input is a case, and its status stands in a line of the output.
+#![tactic(auto)]
+
 mod packs;
 mod rows;
 

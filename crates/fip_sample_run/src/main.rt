@@ -1,5 +1,7 @@
 // Writes a package of three images of its own, made for trying other readers on it: two whose identifiers TF-A's tools know, and
 // one of our own. The second image is of no bytes.
+#![tactic(auto)]
+
 use fip_write::Outcome;
 use libc::STDOUT_FILENO;
 

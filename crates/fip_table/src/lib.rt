@@ -1,5 +1,7 @@
 // A table: entries one behind the other, of a package behind its header or of a plan. How many there are, which one has an
 // identifier, and what is wrong with them.
+#![tactic(auto)]
+
 ghost use Rattle.std.specs.Prelude.{◌≡◌, ◌≤◌};
 ghost use Rattle.tools.specs.Search.{any, first};
 ghost use Rattle.fip_table.specs.Table.{blank, doubled, strays, covers, crowded, slots, count, unended, sought, table_end};

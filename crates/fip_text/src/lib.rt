@@ -1,4 +1,6 @@
 // The listing of a firmware package, a line for each image.
+#![tactic(auto)]
+
 mod names;
 mod pieces;
 

@@ -1,4 +1,6 @@
 // Writes a firmware package into the space that the caller lends, all of it or nothing.
+#![tactic(auto)]
+
 mod parts;
 
 ghost use Rattle.std.specs.Prelude.{◌≡◌, ◌≤◌};

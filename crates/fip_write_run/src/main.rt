@@ -1,5 +1,7 @@
 // Writes good plans and bad ones: a line for each, the length of what was written, or the status and whether the space was left
 // as it was.
+#![tactic(auto)]
+
 mod cases;
 mod plans;
 

@@ -1,5 +1,7 @@
 // The monitor for firmware in C: a thin function for each thing that a board does. Every table is lent by the caller, and passes as
 // a plain pointer; what is an enum here is the paper's number there. include/chiarumbeta.h declares them.
+#![tactic(auto)]
+
 ghost use Rattle.std.specs.Prelude.{◌≡◌, length};
 ghost use Rattle.pages.specs.Owners.{owner};
 ghost use Rattle.registers.specs.Registers.{saved as numberSaved, shown_of};

@@ -1,4 +1,6 @@
 // The bytes of a run through the library for C, for tests: an archive of its own, which firmware does not need.
+#![tactic(auto)]
+
 ghost use Rattle.std.specs.Prelude.{◌≡◌};
 ghost use Rattle.frames.specs.Frames.{machine};
 ghost use Rattle.inputs.specs.Fed.{stand, fed};

@@ -1,4 +1,6 @@
 // Any frame: one of set-up, a call, an arrival, or nothing where the line is no frame.
+#![tactic(auto)]
+
 ghost use Rattle.std.specs.Prelude.{◌≡◌};
 ghost use Rattle.frames.specs.Frames.{Machine, on_machine, framed};
 

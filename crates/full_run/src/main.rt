@@ -1,3 +1,5 @@
+#![tactic(auto)]
+
 // The frame program on a stored run: a full ledger.
 fn main() {
     console::run(true);

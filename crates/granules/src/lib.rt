@@ -1,4 +1,6 @@
 // The granule table: a mark for each page, sixteen in each number. Runs of pages are tested and marked by whole numbers where they cover sixteen.
+#![tactic(auto)]
+
 ghost use Rattle.std.specs.Prelude.{◌≡◌, ◌<◌};
 ghost use Rattle.rules.specs.Sizes.{most_pages};
 ghost use Rattle.tools.specs.Search.{all};

@@ -1,4 +1,6 @@
 // Lower-case hexadecimal digits, read one by one from any bytes, and what reading and writing many of them share.
+#![tactic(auto)]
+
 ghost use Rattle.std.specs.Prelude.{◌≡◌, ◌*◌, ◌<◌, ◌≤◌, min, get_or};
 ghost use Rattle.hex_digits.specs.Hex.{digit_of, all_digits, number};
 ghost use Rattle.hex_digits.specs.Read.{byte_of};

@@ -1,4 +1,6 @@
 // 128 hexadecimal digits read at once, as eight numbers, from any bytes.
+#![tactic(auto)]
+
 ghost use Rattle.std.specs.Prelude.{◌≡◌, ◌+◌, ◌*◌, ◌<◌, ◌≤◌, ◌&&◌, length, nat_lt};
 ghost use Rattle.hex_digits.specs.Rows.{Row};
 ghost use Rattle.hex_read.specs.Marks.{mark_of};

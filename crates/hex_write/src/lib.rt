@@ -1,4 +1,6 @@
 // Numbers written in lower-case hexadecimal digits, where there is room for them.
+#![tactic(auto)]
+
 ghost use Rattle.std.specs.Prelude.{◌≡◌, [], ◌∷◌, ◌+◌, ◌<◌, ◌≤◌, length};
 ghost use Rattle.tools.specs.Laid.{laid, put};
 ghost use Rattle.hex_digits.specs.Hex.{sign_of, in_hex};

@@ -1,4 +1,6 @@
 // The identifier of a call: its parts, and the identifier that parts make.
+#![tactic(auto)]
+
 ghost use Rattle.std.specs.Prelude.{◌≡◌, ◌-◌, ◌^◌};
 ghost use Rattle.identifiers.specs.Identifier.{identifier_of, parts, fitting, InRange, whole_of, joined, key_of, admitted, argument, answer_bits, answer_bits_of};
 

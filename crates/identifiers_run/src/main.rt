@@ -1,4 +1,6 @@
 // Splits identifiers into their parts and joins the parts again, a line for each.
+#![tactic(auto)]
+
 use identifiers::{Identifier, Joined, Parts};
 use libc::STDOUT_FILENO;
 

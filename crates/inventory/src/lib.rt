@@ -1,4 +1,6 @@
 // What there is to tell in the end, one thing after the other.
+#![tactic(auto)]
+
 ghost use Rattle.std.specs.Prelude.{◌≡◌, ◌+◌};
 ghost use Rattle.inventory.specs.Inventory.{unlike, range_end, is_held, held_from, held_thing, range_thing, core_thing, after_head, next, is_end};
 

@@ -1,4 +1,6 @@
 // What a call is answered and what is done for it: the table of calls (specs/Judge.antt), its types and names, and the two ways a judgement ends.
+#![tactic(auto)]
+
 ghost use Rattle.std.specs.Prelude.{◌≡◌};
 ghost use Rattle.judgements.specs.Judge.{wanted, args_of, denied, granted};
 ghost use Rattle.judgements.specs.Read.{args_by};

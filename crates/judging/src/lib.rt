@@ -1,4 +1,6 @@
 // A call is judged: what it is answered and what is to be done for it, by reading alone.
+#![tactic(auto)]
+
 ghost use Rattle.std.specs.Prelude.{◌≡◌};
 ghost use Rattle.mapping.specs.Lists.{held};
 ghost use Rattle.rules.specs.Sizes.{normal};

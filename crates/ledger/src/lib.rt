@@ -1,4 +1,6 @@
 // The service ledger: the accepted entries, oldest first, and which handler takes the calls of each pair of type and owner.
+#![tactic(auto)]
+
 ghost use Rattle.std.specs.Prelude.{◌≡◌, ◌+◌, ◌≤◌, ◌<◌};
 ghost use Rattle.tools.specs.Search.{any};
 ghost use Rattle.ledger.specs.Places.{meant};

@@ -1,4 +1,6 @@
 // Tries entries on two ledgers and looks pairs up in them, a line for each.
+#![tactic(auto)]
+
 use ledger::{Ledger, Lookup};
 use libc::STDOUT_FILENO;
 use rules::Entered;

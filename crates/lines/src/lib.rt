@@ -1,4 +1,6 @@
 // The lines of an input: where each ends, the frame at a place, and the line that lacks its newline.
+#![tactic(auto)]
+
 ghost use Rattle.std.specs.Prelude.{◌≡◌, false, ◌<◌, min, length};
 ghost use Rattle.lines.specs.Quick.{Looked};
 ghost use Rattle.hex_digits.specs.Hex.{all_digits};

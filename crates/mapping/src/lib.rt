@@ -1,4 +1,6 @@
 // The mappings of each world. A judgement sees the held ones as a list, in the order of their places.
+#![tactic(auto)]
+
 ghost use Rattle.std.specs.Prelude.{◌≡◌};
 ghost use Rattle.mapping.specs.Mapping.{has_exactly, meets_run, touched, deciding, decided_by, lead_of, owns_pages, map_verdict};
 ghost use Rattle.mapping.specs.Lists.{held, holding, released};

@@ -1,4 +1,6 @@
 // Marks of four bits, sixteen in one number, that of the lowest page in the lowest bits; and whose each mark is.
+#![tactic(auto)]
+
 ghost use Rattle.std.specs.Prelude.{◌≡◌, ◌*◌, ◌%◌, ◌^◌};
 ghost use Rattle.marks.specs.Digits.{digit, put};
 ghost use Rattle.marks.specs.Owners.{mark_of, owner_of};

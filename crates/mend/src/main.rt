@@ -1,3 +1,5 @@
+#![tactic(auto)]
+
 // Standard input: up to 512 lines of set-up. Standard output: the lines that the monitor accepts, then a notice for each that is dropped.
 fn main() {
     let mut kept = [0u8; 17408];

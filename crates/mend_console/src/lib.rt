@@ -1,4 +1,6 @@
 // The loop of mending: standard input is read to its end, and what it comes to is written to standard output.
+#![tactic(auto)]
+
 ghost use Rattle.std.specs.Prelude.{◌≡◌, true};
 ghost use Rattle.frames.specs.Frames.{Machine, on_machine};
 ghost use Rattle.sheets.specs.Sheet.{Sheet, on_sheet, finished};

@@ -1,1 +1,2 @@
 // What mending promises of any input: theorems for a reviewer, in specs/ alone.
+#![tactic(auto)]

@@ -1,4 +1,6 @@
 // A line of a set-up file: kept where the machine of the kept lines before it accepts it, and dropped where it does not.
+#![tactic(auto)]
+
 ghost use Rattle.std.specs.Prelude.{◌≡◌};
 ghost use Rattle.frames.specs.Frames.{Machine, on_machine};
 ghost use Rattle.sheets.specs.Sheet.{Sheet, on_sheet};

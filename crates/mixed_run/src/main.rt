@@ -1,3 +1,5 @@
+#![tactic(auto)]
+
 // The frame program on a stored run: a long run of everything at once.
 fn main() {
     console::run(true);

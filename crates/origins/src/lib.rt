@@ -1,4 +1,6 @@
 // How many lines a run has had, and for each page of the window the number of the line that named its owner.
+#![tactic(auto)]
+
 ghost use Rattle.std.specs.Prelude.{◌≡◌};
 ghost use Rattle.origins.specs.Origins.{none, origin, marked};
 ghost use Rattle.origins.specs.Lines.{no_line, lines_in, one_more};

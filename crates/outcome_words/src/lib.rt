@@ -1,4 +1,6 @@
 // What came of a frame, in words: a status, or an accepted call's answer; and whether the call was handed over.
+#![tactic(auto)]
+
 ghost use Rattle.std.specs.Prelude.{◌≡◌};
 ghost use Rattle.outcome_words.specs.Came.{reason_word, status_word, answered, came_said, is_silent, handed};
 ghost use Rattle.judgements.specs.declared.Answer.TheVariants as Answer;

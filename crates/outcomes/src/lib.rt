@@ -1,4 +1,6 @@
 // What comes of a frame, as values: the status that it is told, or who called and what was answered.
+#![tactic(auto)]
+
 ghost use Rattle.std.specs.Prelude.{◌≡◌};
 ghost use Rattle.frames.specs.Frames.{Machine, on_machine};
 ghost use Rattle.outcomes.specs.Outcomes.{tried, taken};

@@ -1,4 +1,6 @@
 // Page transfers between Normal and the world that calls: one operation, over the rows of a small table.
+#![tactic(auto)]
+
 ghost use Rattle.std.specs.Prelude.{◌≡◌};
 ghost use Rattle.mapping.specs.Lists.{held};
 ghost use Rattle.rules.specs.Sizes.{normal};

@@ -11,6 +11,8 @@
 // k NUMBER 0 0 0: the marks of sixteen pages, the highest first
 //
 // The first two have no name, and nothing is written of them.
+#![tactic(auto)]
+
 ghost use Rattle.std.specs.Prelude.{◌+◌, ◌≤◌, ◌<◌, length};
 
 use libc::{STDIN_FILENO, STDOUT_FILENO};

@@ -1,4 +1,6 @@
 // A line of bytes read as a frame, or refused: the part of the frame program that needs no state.
+#![tactic(auto)]
+
 ghost use Rattle.std.specs.Prelude.{◌≡◌};
 ghost use Rattle.parsing.specs.Frame.{status_byte, site_in, entry_in, name_in, call_in, arrival_in, sized, known, frame_of, is_call, parsed};
 

@@ -1,4 +1,6 @@
 // Sentences: short rows of pieces by value, and the line of text that each makes.
+#![tactic(auto)]
+
 ghost use Rattle.std.specs.Prelude.{◌≡◌, ◌+◌, ◌-◌, ◌≤◌, length};
 ghost use Rattle.tools.specs.Laid.{put};
 ghost use Rattle.phrases.specs.Sentence.{kind_of, value_of, piece_of, blank, ◌▹◌};

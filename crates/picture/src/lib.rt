@@ -1,4 +1,6 @@
 // The window as a picture: rows of 64 letters, one a page by its owner, mapped pages in capitals, each behind its first address.
+#![tactic(auto)]
+
 ghost use Rattle.std.specs.Prelude.{◌≡◌, ◌+◌, ◌-◌, ◌≤◌, length};
 ghost use Rattle.tools.specs.Laid.{put};
 ghost use Rattle.phrases.specs.Text.{told};

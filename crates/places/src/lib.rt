@@ -1,5 +1,7 @@
 // Each world's sixteen places, free or held, in one table that the caller lends. Where there is no such world or place, reading
 // gives a free one and writing changes nothing. No search looks past the last place that is held.
+#![tactic(auto)]
+
 ghost use Rattle.std.specs.Prelude.{◌≡◌, ◌≤◌, ◌<◌};
 ghost use Rattle.ranges.specs.declared.Question.TheVariants.{Free, OnPages, OnRange, Touches};
 ghost use Rattle.places.specs.Table.{blank, unmapped, reach, raw, written, resized, behind, grown, used, place, stored, freed};

@@ -1,4 +1,6 @@
 // Core power: start, state, off, and what of it there is.
+#![tactic(auto)]
+
 ghost use Rattle.std.specs.Prelude.{◌≡◌};
 ghost use Rattle.cores.specs.Power.{is_on, is_pending};
 ghost use Rattle.cores.specs.Cores.{power};

@@ -1,4 +1,6 @@
 // One mapping by value: what may be asked of it, and what may be wrong with it by itself.
+#![tactic(auto)]
+
 ghost use Rattle.std.specs.Prelude.{◌≡◌, ◌+◌, ◌*◌, ltb};
 ghost use Rattle.rules.specs.Sizes.{page_size, virtual_limit};
 ghost use Rattle.ranges.specs.Ranges.{within, meet, inside, level};

@@ -1,5 +1,7 @@
 // What is saved for each core and world, in one table that the caller lends: eight registers and where the core started.
 // Where there is no such core, world or number, reading gives 0 and writing changes nothing.
+#![tactic(auto)]
+
 ghost use Rattle.std.specs.Prelude.{◌≡◌, [], ◌∷◌, length};
 ghost use Rattle.registers.specs.Registers.{start_of, count_of, number_in, shown_in, zeros, saved, shown_of, saving};
 

@@ -1,3 +1,5 @@
+#![tactic(auto)]
+
 // Standard input: any number of frame runs, a line of `00` between them. Standard output: how many accepted calls each world made, by
 // their answers.
 fn main() {

@@ -1,4 +1,6 @@
 // The loop of a report: standard input is read to its end, and the report of it written to standard output.
+#![tactic(auto)]
+
 ghost use Rattle.std.specs.Prelude.{◌≡◌, true};
 ghost use Rattle.tools.specs.Laid.{put};
 ghost use Rattle.report_text.specs.Report.{report_text};

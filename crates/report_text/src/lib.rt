@@ -1,5 +1,7 @@
 // The text of a report: a line for each count that is not 0, by world and then by answer, behind a notice where a call came
 // too many.
+#![tactic(auto)]
+
 ghost use Rattle.std.specs.Prelude.{◌≡◌, ◌+◌, ◌*◌, ◌≤◌, length};
 ghost use Rattle.tools.specs.Laid.{put};
 ghost use Rattle.report_text.specs.Report.{head_text, pair_text, line_text, line_at, notice_text, lines_from, report_text};

@@ -1,4 +1,6 @@
 // The run of a report over any bytes: each complete line of a read is taken, and what is unfinished waits for more.
+#![tactic(auto)]
+
 ghost use Rattle.std.specs.Prelude.{◌≡◌};
 ghost use Rattle.frames.specs.Frames.{Machine, on_machine};
 ghost use Rattle.inputs.specs.Feeding.{feeding};

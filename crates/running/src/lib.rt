@@ -1,4 +1,6 @@
 // The world that runs on a core.
+#![tactic(auto)]
+
 ghost use Rattle.std.specs.Prelude.{◌≡◌};
 ghost use Rattle.running.specs.Running.{running_on, runs_after};
 

@@ -1,4 +1,6 @@
 // Set-up: the site is fixed once, and until the first call the ledger is entered and pages are named.
+#![tactic(auto)]
+
 ghost use Rattle.std.specs.Prelude.{◌≡◌};
 ghost use Rattle.setup.specs.Table.{unset, ready, ended, window, cores, fixed, over};
 ghost use Rattle.setup.specs.Frames.{fits, sited, untimely, entered_status, entering, naming_in, core_verdict};

@@ -1,4 +1,6 @@
 // Lines of set-up in words: the number of the line, and what is asked.
+#![tactic(auto)]
+
 ghost use Rattle.std.specs.Prelude.{◌≡◌};
 ghost use Rattle.setup_words.specs.SetUp.{opening, setup_line, site_asked, entry_asked, name_asked};
 

@@ -1,4 +1,6 @@
 // What mending a set-up file sets down: the text of the kept lines, that of a notice for each dropped one, and how far each goes.
+#![tactic(auto)]
+
 ghost use Rattle.std.specs.Prelude.{◌≡◌, ◌+◌, ◌≤◌, length};
 ghost use Rattle.tools.specs.Laid.{laid, put};
 ghost use Rattle.sheets.specs.Sheet.{line_text, number_text, dropped_text, counting, on_sheet, kept_on, dropped_on, noted_on, finished, Sheet};

@@ -1,4 +1,6 @@
 // How a frame is answered, and what is shown of a core after its call.
+#![tactic(auto)]
+
 ghost use Rattle.std.specs.Prelude.{◌≡◌};
 ghost use Rattle.showing.specs.Showing.{shown_on};
 

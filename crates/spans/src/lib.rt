@@ -1,4 +1,6 @@
 // Which pages a line is about: those that it names an owner for, and those whose transfer a call asks for.
+#![tactic(auto)]
+
 ghost use Rattle.std.specs.Prelude.{◌≡◌};
 ghost use Rattle.judgements.specs.Read.{args_by};
 ghost use Rattle.spans.specs.Spans.{any_row, span_of, asked_by, is_done, named_in, named, over_page, asks_over, is_verdict, asks_for};

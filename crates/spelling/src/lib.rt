@@ -1,4 +1,6 @@
 // The numbers of tables as bytes: eight for each, the lowest first.
+#![tactic(auto)]
+
 ghost use Rattle.std.specs.Prelude.{◌≡◌};
 ghost use Rattle.tools.specs.Laid.{laid};
 ghost use Rattle.spelling.specs.Spelled.{spelled};

@@ -1,4 +1,6 @@
 // Handler 2: core power, and Realm's hand-over and finish.
+#![tactic(auto)]
+
 ghost use Rattle.std.specs.Prelude.{◌≡◌};
 ghost use Rattle.judgements.specs.Judge.{handing_to_realm, realm_call, standard};
 ghost use Rattle.judgements.specs.Read.{args_by};

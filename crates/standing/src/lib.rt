@@ -1,4 +1,6 @@
 // How things stand, a sentence for each core, range of pages and mapping.
+#![tactic(auto)]
+
 ghost use Rattle.std.specs.Prelude.{◌≡◌, ◌-◌};
 ghost use Rattle.rules.specs.Choice.{pick};
 ghost use Rattle.standing.specs.Standing.{address_of, is_wide, pages_word, attributes_word, origin_said, core_said, place_said, owner_said, range_said, maps_said, mapping_said, head_said, outside_said, word_said};

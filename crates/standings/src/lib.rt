@@ -1,4 +1,6 @@
 // The end of an explanation, on standard output: how things stand, whose page was asked about, or the picture of the window.
+#![tactic(auto)]
+
 ghost use Rattle.std.specs.Prelude.{◌≡◌, true};
 ghost use Rattle.endings.specs.Ending.{end_lines};
 ghost use Rattle.standings.specs.Written.{Written};

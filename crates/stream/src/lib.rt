@@ -1,4 +1,6 @@
 // The run over any bytes: each complete line of a chunk is answered, and what is unfinished waits for more.
+#![tactic(auto)]
+
 ghost use Rattle.std.specs.Prelude.{◌≡◌};
 ghost use Rattle.frames.specs.Frames.{Machine, on_machine};
 ghost use Rattle.inputs.specs.Fed.{stand, fed};

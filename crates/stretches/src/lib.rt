@@ -1,4 +1,6 @@
 // How far a world's mappings decide as they do at an address, so that a range is compared by its edges and not page by page.
+#![tactic(auto)]
+
 ghost use Rattle.std.specs.Prelude.{◌≡◌};
 ghost use Rattle.mapping.specs.Lists.{held};
 ghost use Rattle.stretches.specs.Steady.{least, stretch, steady};

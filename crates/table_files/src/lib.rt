@@ -1,4 +1,6 @@
 // Tables as a file has them: each number in eight bytes, the lowest byte first.
+#![tactic(auto)]
+
 ghost use Rattle.std.specs.Prelude.{◌≡◌};
 ghost use Rattle.tools.specs.Laid.{laid};
 ghost use Rattle.table_files.specs.Numbers.{numbers_of};

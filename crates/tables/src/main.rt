@@ -1,5 +1,7 @@
 // Builds page tables: tables WORLD [NUMBERS], with a run of frames on standard input. Standard output: the tables of what the world
 // has mapped after it, each number in 8 bytes, the lowest first.
+#![tactic(auto)]
+
 ghost use Rattle.std.specs.Prelude.{◌≤◌};
 
 use building::Built;

@@ -1,5 +1,7 @@
 // The tables of a run: standard input is read to its end, the tables of what a world has mapped then are built, and their bytes
 // are written to standard output.
+#![tactic(auto)]
+
 ghost use Rattle.std.specs.Prelude.{◌≡◌, true};
 ghost use Rattle.tools.specs.Laid.{laid};
 ghost use Rattle.spelling.specs.Spelled.{spelled};

@@ -1,6 +1,8 @@
 // Lists at the edges of the rules of tables. Of each table the entries that are not 0, as table, entry, the number there, and how many
 // entries from it on go page by page; then how many tables there are, or 88. Behind them stands where some addresses lead by a walk of
 // the tables, those that lead anywhere.
+#![tactic(auto)]
+
 ghost use Rattle.std.specs.Prelude.{◌<◌, ◌≤◌};
 
 use building::Built;

@@ -1,4 +1,6 @@
 // How many accepted calls each world made, by their answers.
+#![tactic(auto)]
+
 ghost use Rattle.std.specs.Prelude.{◌≡◌};
 ghost use Rattle.tools.specs.Store.{write};
 ghost use Rattle.tallies.specs.Rows.{answer_at, row_of};

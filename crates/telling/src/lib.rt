@@ -1,4 +1,6 @@
 // A line of a run told in words: its number, who speaks on which core, what is asked, and what came of it.
+#![tactic(auto)]
+
 ghost use Rattle.std.specs.Prelude.{◌≡◌};
 ghost use Rattle.words.specs.Words as w;
 ghost use Rattle.outcome_words.specs.Came.{came_said};

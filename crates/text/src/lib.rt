@@ -1,4 +1,6 @@
 // The text of answers.
+#![tactic(auto)]
+
 ghost use Rattle.std.specs.Prelude.{◌≡◌, ◌+◌, ◌≤◌, length};
 ghost use Rattle.tools.specs.Laid.{put};
 ghost use Rattle.text.specs.Text.{head_text, status_text, call_text};

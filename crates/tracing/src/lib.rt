@@ -1,4 +1,6 @@
 // A line of a run: the machine takes it, it is counted, and where it names the owners of pages its number is noted for each.
+#![tactic(auto)]
+
 ghost use Rattle.std.specs.Prelude.{◌≡◌};
 ghost use Rattle.frames.specs.Frames.{Machine, on_machine};
 ghost use Rattle.tracing.specs.Traced.{noted, traced_line};

@@ -1,4 +1,6 @@
 // Whether a run of pages may change its owner, and which run it is.
+#![tactic(auto)]
+
 ghost use Rattle.std.specs.Prelude.{◌≡◌};
 ghost use Rattle.mapping.specs.Lists.{held};
 ghost use Rattle.transfers.specs.Transfer.{transfer_verdict};

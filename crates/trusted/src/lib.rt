@@ -1,4 +1,6 @@
 // Hand-over and finish, and handler 3: the trusted system.
+#![tactic(auto)]
+
 ghost use Rattle.std.specs.Prelude.{◌≡◌};
 ghost use Rattle.judgements.specs.Judge.{handing, finishing, trusted};
 

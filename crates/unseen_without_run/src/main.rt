@@ -1,3 +1,5 @@
+#![tactic(auto)]
+
 // The frame program on a stored run: Realm makes no call on its own mappings.
 fn main() {
     console::run(true);

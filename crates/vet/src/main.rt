@@ -1,4 +1,6 @@
 // Vets a file of tables against what a world has mapped after the run on standard input: vet WORLD TABLES.
+#![tactic(auto)]
+
 use libc::{STDERR_FILENO, STDOUT_FILENO};
 use mapping::Lists;
 use rules::ROOT;

@@ -6,6 +6,8 @@
 // VIRTUAL PHYSICAL SIZE ATTRIBUTES m: a mapping
 // PLACE NUMBER n: a number at a place
 // v NAME: the tables are vetted, and a line of the output has what came of it, and the rest of this line
+#![tactic(auto)]
+
 use libc::{STDIN_FILENO, STDOUT_FILENO};
 use mapping::{Lists, Mapping};
 use rules::NORMAL;

@@ -1,6 +1,8 @@
 // Tables that another tool made, vetted against what a world has mapped: accepted, or the first refusal with its virtual address.
 // The pass goes by ascending address, an upper entry before those of its table. Nothing is written, and of the tables nothing is
 // kept from entry to entry.
+#![tactic(auto)]
+
 mod answers;
 mod free;
 mod reached;

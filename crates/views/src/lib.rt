@@ -1,4 +1,6 @@
 // Which lines of a run are shown: all of them, those about one page, or none.
+#![tactic(auto)]
+
 ghost use Rattle.std.specs.Prelude.{◌≡◌};
 ghost use Rattle.mapping.specs.Lists.{held};
 ghost use Rattle.frames.specs.Frames.{Machine, on_machine};

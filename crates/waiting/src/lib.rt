@@ -1,5 +1,7 @@
 // What lies between a read and a write: the complete lines are answered, and an unfinished line waits at the front. Nothing here
 // reads or writes.
+#![tactic(auto)]
+
 ghost use Rattle.std.specs.Prelude.{◌≡◌};
 ghost use Rattle.frames.specs.Frames.{Machine, on_machine};
 ghost use Rattle.inputs.specs.Waiting.{front, heard, served};

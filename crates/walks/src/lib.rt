@@ -1,4 +1,6 @@
 // The walk of tables that lie in lent numbers: a level at a time, from level 1 at 0 on, whatever the numbers are.
+#![tactic(auto)]
+
 ghost use Rattle.std.specs.Prelude.{◌≡◌, get_or};
 ghost use Rattle.walks.specs.Walk.{entry_for, descended, walked};
 

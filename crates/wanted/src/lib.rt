@@ -1,5 +1,7 @@
 // What somebody wants to see of a run, from the word behind the program's name: `map`, or an address in hexadecimal digits,
 // with or without 0x.
+#![tactic(auto)]
+
 ghost use Rattle.std.specs.Prelude.{◌≡◌, ◌≤◌, ◌<◌, length, get_or};
 ghost use Rattle.hex_digits.specs.Hex.{digit_of, value};
 ghost use Rattle.wanted.specs.Wanted.{is_map, has_prefix, address_by, wanted_by};

@@ -1,4 +1,6 @@
 // The one table of words that sentences are made of.
+#![tactic(auto)]
+
 ghost use Rattle.std.specs.Prelude.{◌≡◌, ◌-◌, ◌≤◌, ◌<◌, take, drop};
 ghost use Rattle.tools.specs.Laid.{put};
 ghost use Rattle.words.specs.Words.{word_text};

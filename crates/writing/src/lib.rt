@@ -1,4 +1,6 @@
 // Pieces of text, each put where there is room for it: bytes as they stand, blanks, and numbers in decimal digits.
+#![tactic(auto)]
+
 ghost use Rattle.std.specs.Prelude.{◌≡◌, ◌+◌, ◌≤◌, length};
 ghost use Rattle.tools.specs.Laid.{laid, put};
 ghost use Rattle.writing.specs.Decimal.{decimal_text};
