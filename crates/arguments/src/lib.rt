@@ -10,7 +10,7 @@ use rules::{NORMAL, REALM, ROOT, SECURE};
 const MOST: u64 = 0x100000000;
 
 // A number, if the word is one.
-#[derive(Drop)]
+#[derive(Clone, Copy)]
 pub struct Count {
     pub given: bool,
     pub n: u64,

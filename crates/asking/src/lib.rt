@@ -15,7 +15,7 @@ use words::names::{
 };
 
 // What numbers have names for.
-#[derive(Drop)]
+#[derive(Clone, Copy)]
 pub enum Known {
     World,
     Handler,
@@ -24,7 +24,7 @@ pub enum Known {
 }
 
 // What a call is told by: its key, and its arguments as it reads them. The fifth is Realm's finish's alone, and whole.
-#[derive(Drop)]
+#[derive(Clone, Copy)]
 pub struct Given {
     pub key: u64,
     pub x1: u64,

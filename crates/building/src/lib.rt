@@ -18,7 +18,7 @@ use rules::PAGE_SIZE;
 const ENTRIES: u64 = 512;
 
 // What becomes of a build: so many tables, or nothing is written since they do not fit.
-#[derive(Drop)]
+#[derive(Clone, Copy)]
 pub enum Built {
     Tables(u64),
     NoRoom,

@@ -19,7 +19,7 @@ use setup::{Setup, Verdict};
 use showing::Reply;
 
 // What becomes of the frame of a call: it is refused, or who called and what was answered.
-#[derive(Drop)]
+#[derive(Clone, Copy)]
 pub enum Tried {
     Refused(Status),
     Called(Made),

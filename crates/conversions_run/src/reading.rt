@@ -5,7 +5,7 @@ use crate::spaces;
 use crate::spaces::{Numbers, ROOM};
 
 // A number, the sign behind it, and where the next one begins.
-#[derive(Drop)]
+#[derive(Clone, Copy)]
 struct Read {
     value: u64,
     sign: u8,
@@ -13,14 +13,14 @@ struct Read {
 }
 
 // How many places of a space were filled, and where the next part begins.
-#[derive(Drop)]
+#[derive(Clone, Copy)]
 struct Filled {
     count: usize,
     next: usize,
 }
 
 // Kind and page count of a line, how many places its spaces have, and where the next line begins.
-#[derive(Drop)]
+#[derive(Clone, Copy)]
 pub(crate) struct Line {
     pub(crate) kind: u8,
     pub(crate) pages: u64,

@@ -9,7 +9,7 @@ ghost use Rattle.cores.specs.Cores.{power, with_power, first_powers, turn, with_
 use rules::{MOST_CORES, NORMAL, ROOT};
 
 // One core's power. The start address and the context are those of the call that made it pending.
-#[derive(Drop)]
+#[derive(Clone, Copy)]
 pub struct Power {
     pub state: u64,
     pub start: u64,
@@ -94,7 +94,7 @@ pub fn arrive(p: &mut Power) -> bool
 }
 
 // What an arrival comes to: whether the core was pending, and its power now.
-#[derive(Drop)]
+#[derive(Clone, Copy)]
 pub struct Arriving {
     pub came: bool,
     pub power: Power,
@@ -113,7 +113,7 @@ pub fn arrival(p: Power) -> Arriving
 }
 
 // Which world runs on a core.
-#[derive(Drop)]
+#[derive(Clone, Copy)]
 pub struct Turn {
     pub world: u64,
 }

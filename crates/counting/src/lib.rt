@@ -21,7 +21,7 @@ use setup::Setup;
 use tallies::Tally;
 
 // Whose call a frame is.
-#[derive(Drop)]
+#[derive(Clone, Copy)]
 enum Whose {
     Core(u64),
     Nobody,

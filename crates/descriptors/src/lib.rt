@@ -26,7 +26,7 @@ const READ_ONLY: u64 = 0x80;
 
 const NEVER_RUN: u64 = 0x40000000000000;
 
-#[derive(Drop)]
+#[derive(Clone, Copy)]
 pub enum Descriptor {
     // it leads nowhere: bit 0 is clear, or the number is reserved
     Nothing,

@@ -17,7 +17,7 @@ use views::View;
 use words::names;
 
 // A part of the end: each has a line.
-#[derive(Drop)]
+#[derive(Clone, Copy)]
 pub enum Part {
     // a thing of how things stand
     Stands(Thing),
@@ -30,7 +30,7 @@ pub enum Part {
 }
 
 // How many bytes were put, and the part that comes next.
-#[derive(Drop)]
+#[derive(Clone, Copy)]
 pub struct Chunk {
     pub put: usize,
     pub next: Part,

@@ -26,14 +26,14 @@ pub type Input = [u8; 1024];
 pub type Output = [u8; 3146752];
 
 // How far a chunk was read, and how much was put.
-#[derive(Drop)]
+#[derive(Clone, Copy)]
 pub struct Fed {
     pub used: usize,
     pub put: usize,
 }
 
 // How many bytes are to be written, and how many wait.
-#[derive(Drop)]
+#[derive(Clone, Copy)]
 pub struct Due {
     pub put: usize,
     pub kept: usize,

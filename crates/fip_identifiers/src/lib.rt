@@ -12,7 +12,7 @@ ghost use Rattle.fip_identifiers.specs.Identifiers.{byte_text, run, id_text, agr
 pub const TEXT: usize = 36;
 
 // Whether a text is an identifier, and its bytes.
-#[derive(Drop)]
+#[derive(Clone, Copy)]
 pub struct Asked {
     pub given: bool,
     pub bytes: [u8; 16],

@@ -5,7 +5,7 @@ ghost use Rattle.std.specs.Prelude.{◌≡◌, ◌≤◌, length, drop};
 ghost use Rattle.fip_read.specs.Reading.{wrong_length, wrong_header, judged, tabled, located, status_of, part_of, address_of};
 
 // Where an image lies in the package, or why there is none.
-#[derive(Drop)]
+#[derive(Clone, Copy)]
 pub enum Found {
     At { start: usize, size: usize },
     Refused(u64),

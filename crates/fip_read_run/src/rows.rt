@@ -11,7 +11,7 @@ use libc::STDOUT_FILENO;
 const TEXT: usize = 7;
 
 // A row as far as it is read, and the field that its next byte belongs to.
-#[derive(Drop)]
+#[derive(Clone, Copy)]
 struct Row {
     fields: Fields,
     at: usize,

@@ -11,7 +11,7 @@ ghost use Rattle.fip_table.specs.Question.{answers, clashes};
 const SLOTS: usize = fip_entries::MOST_IMAGES + 1;
 
 // What may be asked of an entry.
-#[derive(Drop)]
+#[derive(Clone, Copy)]
 enum Question {
     // whether it has the identifier of entry i of what is lent beside the table
     Same(u32),
@@ -22,7 +22,7 @@ enum Question {
 }
 
 // What may be wrong with an entry, given those before it.
-#[derive(Drop)]
+#[derive(Clone, Copy)]
 enum Clash {
     // one of them has its identifier
     Twin,

@@ -10,7 +10,7 @@ ghost use Rattle.fip_write.specs.Packed.{packed};
 ghost use Rattle.fip_write.specs.Writing.{wrote};
 
 // How long the package is that was written, or the number of the first rule that is broken.
-#[derive(Drop)]
+#[derive(Clone, Copy)]
 pub enum Outcome {
     Written(usize),
     Refused(u64),

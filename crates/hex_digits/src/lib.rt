@@ -7,7 +7,7 @@ ghost use Rattle.hex_digits.specs.Read.{byte_of};
 ghost use Rattle.hex_digits.specs.Swap.{swap_two, swap_four, swap};
 
 // The byte that two signs stand for, or that they are no digits.
-#[derive(Drop)]
+#[derive(Clone, Copy)]
 pub enum Byte {
     Is(u64),
     NoDigits,

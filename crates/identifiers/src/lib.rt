@@ -8,11 +8,11 @@ ghost use Rattle.identifiers.specs.Identifier.{identifier_of, parts, fitting, In
 const LIMIT: u64 = 1 << 32;
 
 // The 32 bits by which a call is named.
-#[derive(Drop)]
+#[derive(Clone, Copy)]
 pub struct Identifier(pub u32);
 
 // What the fields of an identifier hold.
-#[derive(Drop)]
+#[derive(Clone, Copy)]
 pub struct Parts {
     // 1 for a fast call, 0 for a yielding one
     pub fast: u32,
@@ -27,7 +27,7 @@ pub struct Parts {
 }
 
 // What joining gives.
-#[derive(Drop)]
+#[derive(Clone, Copy)]
 pub enum Joined {
     Whole(Identifier),
     // a part does not fit its field

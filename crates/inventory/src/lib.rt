@@ -14,7 +14,7 @@ use setup::Setup;
 const PLACES: u64 = WORLDS * MOST_MAPPINGS;
 
 // A thing to tell.
-#[derive(Drop)]
+#[derive(Clone, Copy)]
 pub enum Thing {
     // how many lines came
     Head,

@@ -13,7 +13,7 @@ use pages::Window;
 use rules::Reason;
 
 // What a call is answered. The paper's numbers stand in one definition, where answers are written.
-#[derive(Drop)]
+#[derive(Clone, Copy)]
 pub enum Answer {
     // the version of the calling convention
     Version,
@@ -38,7 +38,7 @@ pub enum Answer {
 }
 
 // What is to be done for a call.
-#[derive(Drop)]
+#[derive(Clone, Copy)]
 pub enum Deed {
     Nothing,
     // pages, from the first one's place in the window on, go to another owner
@@ -54,14 +54,14 @@ pub enum Deed {
 }
 
 // A judgement: the answer, and the deed that goes with it.
-#[derive(Drop)]
+#[derive(Clone, Copy)]
 pub struct Judged {
     pub answer: Answer,
     pub deed: Deed,
 }
 
 // Who calls, and from where.
-#[derive(Drop)]
+#[derive(Clone, Copy)]
 pub struct Caller {
     pub world: u64,
     pub cores: u64,
@@ -69,7 +69,7 @@ pub struct Caller {
 }
 
 // The arguments of a call, as its width has them read.
-#[derive(Drop)]
+#[derive(Clone, Copy)]
 pub struct Args {
     pub x1: u64,
     pub x2: u64,
@@ -92,7 +92,7 @@ impl Args {
 }
 
 // A page transfer.
-#[derive(Drop)]
+#[derive(Clone, Copy)]
 pub struct Transfer {
     // whether Secure and Realm both may call it, or Realm alone
     pub both: bool,
@@ -103,14 +103,14 @@ pub struct Transfer {
 }
 
 // What the table of transfers has for a call.
-#[derive(Drop)]
+#[derive(Clone, Copy)]
 pub enum Row {
     Is(Transfer),
     NoTransfer,
 }
 
 // What a call reads of the caller's eight numbers.
-#[derive(Drop)]
+#[derive(Clone, Copy)]
 pub struct Request {
     pub parts: Parts,
     pub key: u32,

@@ -32,7 +32,7 @@ const KIND: u64 = 1 << 14;
 const IN_USE: u64 = 1 << 15;
 
 // Who takes the calls of a pair.
-#[derive(Drop)]
+#[derive(Clone, Copy)]
 pub enum Lookup {
     Handler(u64),
     Nobody,

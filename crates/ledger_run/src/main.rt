@@ -6,7 +6,7 @@ use libc::STDOUT_FILENO;
 use rules::Entered;
 
 // An entry of first and last owner, type and handler; a lookup of type and owner; or how many places are in use.
-#[derive(Drop)]
+#[derive(Clone, Copy)]
 enum Step {
     Enter(u64, u64, u64, u64),
     Look(u32, u32),

@@ -14,7 +14,7 @@ use parsing::{Frame, MOST, Status};
 const NEWLINE: u8 = 10;
 
 // The line at a place: its frame and where the next line starts, or that its newline is not there yet.
-#[derive(Drop)]
+#[derive(Clone, Copy)]
 pub enum Next {
     Line { frame: Frame, after: usize },
     Unfinished,
@@ -22,7 +22,7 @@ pub enum Next {
 
 // What 132 signs are before a newline, with no search for an earlier one: a call on a core; signs that are not all digits; or
 // anything else.
-#[derive(Drop)]
+#[derive(Clone, Copy)]
 enum Look {
     Call(u64),
     NoHex,

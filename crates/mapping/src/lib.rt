@@ -14,7 +14,7 @@ use rules::{MOST_MAPPINGS, PAGE_SIZE, Reason};
 const COUNTABLE: u64 = 0x10000000000000;
 
 // How a mapping is judged. Of size 0 it is nothing, and done.
-#[derive(Drop)]
+#[derive(Clone, Copy)]
 pub enum Verdict {
     Granted,
     Nothing,
@@ -22,14 +22,14 @@ pub enum Verdict {
 }
 
 // Which mapping decides an address.
-#[derive(Drop)]
+#[derive(Clone, Copy)]
 pub enum Decider {
     By(Mapping),
     Nobody,
 }
 
 // Where an address leads.
-#[derive(Drop)]
+#[derive(Clone, Copy)]
 pub enum Lead {
     To { phys: u64, attr: u64 },
     Nowhere,

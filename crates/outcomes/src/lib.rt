@@ -16,7 +16,7 @@ use registers::Saved;
 use setup::Setup;
 
 // What comes of a frame.
-#[derive(Drop)]
+#[derive(Clone, Copy)]
 pub enum Came {
     // any frame but an accepted call: 00 where it was accepted
     Told(Status),

@@ -65,7 +65,7 @@ fn moved(t: Verdict, count: u64, to: u64) -> Judged
 }
 
 // Who gives the pages of a transfer, and who takes them.
-#[derive(Drop)]
+#[derive(Clone, Copy)]
 struct Ends {
     from: u64,
     to: u64,

@@ -21,7 +21,7 @@ use pages::{Owners, Window};
 use rules::{ROOT, Reason};
 
 // What a line asks for, and where its name begins.
-#[derive(Drop)]
+#[derive(Clone, Copy)]
 struct Step {
     kind: u8,
     a: u64,
@@ -32,14 +32,14 @@ struct Step {
 }
 
 // A number that was read, and where the next one begins.
-#[derive(Drop)]
+#[derive(Clone, Copy)]
 struct Read {
     value: u64,
     next: usize,
 }
 
 // What came of a step.
-#[derive(Drop)]
+#[derive(Clone, Copy)]
 enum Answer {
     Number(u64),
     Marks(u64),

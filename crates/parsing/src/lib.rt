@@ -8,7 +8,7 @@ ghost use Rattle.parsing.specs.Frame.{status_byte, site_in, entry_in, name_in, c
 pub const MOST: usize = 132;
 
 // How a frame is answered. The paper's byte of each stands in one definition.
-#[derive(Drop)]
+#[derive(Clone, Copy)]
 pub enum Status {
     Accepted,
     // the line cannot be read as bytes
@@ -24,7 +24,7 @@ pub enum Status {
 }
 
 // A line by itself. The eight numbers of a call stand beside it.
-#[derive(Drop)]
+#[derive(Clone, Copy)]
 pub enum Frame {
     // 11: the window and the number of cores
     Site {

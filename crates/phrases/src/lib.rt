@@ -7,7 +7,7 @@ ghost use Rattle.phrases.specs.Sentence.{kind_of, value_of, piece_of, blank, ◌
 ghost use Rattle.phrases.specs.Text.{indent, right_text, hex_text, value_text, gap_text, piece_text, in_columns, text_of, line_text, told};
 
 // A piece of a sentence.
-#[derive(Drop)]
+#[derive(Clone, Copy)]
 pub enum Piece {
     // a word, by its number in the table of words
     Word(u64),
@@ -33,7 +33,7 @@ const SIGNS: usize = 96;
 pub const LONGEST: usize = PIECES * SIGNS + 1;
 
 // A sentence: the kind and the value of each of its pieces, and how many it has.
-#[derive(Drop)]
+#[derive(Clone, Copy)]
 pub struct Sentence {
     pub kinds: [u64; 32],
     pub values: [u64; 32],

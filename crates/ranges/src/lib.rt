@@ -11,7 +11,7 @@ use pages::{Place, Window};
 use rules::{LAST_ATTRIBUTES, PAGE_SIZE, VIRTUAL_LIMIT};
 
 // A range of virtual addresses, the physical addresses that it leads to, and what may be done there.
-#[derive(Drop)]
+#[derive(Clone, Copy)]
 pub struct Mapping {
     pub virt: u64,
     pub phys: u64,
@@ -20,7 +20,7 @@ pub struct Mapping {
 }
 
 // What may be asked of a place.
-#[derive(Drop)]
+#[derive(Clone, Copy)]
 pub enum Question {
     // whether it is free
     Free,

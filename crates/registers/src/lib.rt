@@ -14,7 +14,7 @@ const EACH: usize = 9;
 pub type Saved = [u64; MOST_CORES as usize * WORLDS as usize * EACH];
 
 // What an accepted call's frame shows of a world: its first four numbers.
-#[derive(Drop)]
+#[derive(Clone, Copy)]
 pub struct Shown {
     pub x0: u64,
     pub x1: u64,
@@ -23,7 +23,7 @@ pub struct Shown {
 }
 
 // Where the nine numbers of one core and world begin.
-#[derive(Drop)]
+#[derive(Clone, Copy)]
 enum Start {
     At(usize),
     Nowhere,

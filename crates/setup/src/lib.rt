@@ -14,7 +14,7 @@ use rules::{Entered, MOST_CORES, ROOT};
 pub type Setup = [u64; 5];
 
 // Whether a frame is carried out, or why not.
-#[derive(Drop)]
+#[derive(Clone, Copy)]
 pub enum Verdict {
     Granted,
     Refused(Status),

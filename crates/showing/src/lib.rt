@@ -10,7 +10,7 @@ use registers::{Saved, Shown};
 use rules::NORMAL;
 
 // How a frame is answered. The world is 255 where the core is not ON after the call.
-#[derive(Drop)]
+#[derive(Clone, Copy)]
 pub enum Reply {
     Told(Status),
     Called { core: u64, world: u64, shown: Shown },

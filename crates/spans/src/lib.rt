@@ -13,7 +13,7 @@ use parsing::{Frame, Status};
 use rules::PAGE_SIZE;
 
 // Some pages of the window, from the first one's place on.
-#[derive(Drop)]
+#[derive(Clone, Copy)]
 pub enum Span {
     Pages { first: u64, count: u64 },
     NoPages,

@@ -14,7 +14,7 @@ use registers::Saved;
 use setup::Setup;
 
 // How far a chunk was read, and how much was printed.
-#[derive(Drop)]
+#[derive(Clone, Copy)]
 pub struct Fed {
     pub used: usize,
     pub put: usize,

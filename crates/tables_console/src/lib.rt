@@ -16,7 +16,7 @@ const MOST_TABLES: u64 = 44;
 const TABLE_BYTES: u64 = 4096;
 
 // What became of the build, and whether the input was read to its end, or to where it can be read no further.
-#[derive(Drop)]
+#[derive(Clone, Copy)]
 pub struct Made {
     pub built: Built,
     pub whole: bool,

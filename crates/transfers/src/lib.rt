@@ -9,7 +9,7 @@ use mapping::Lists;
 use pages::{Owners, Place, Window};
 use rules::Reason;
 
-#[derive(Drop)]
+#[derive(Clone, Copy)]
 pub enum Verdict {
     // the place of the run's first page in the window
     Granted(u64),

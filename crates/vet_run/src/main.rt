@@ -15,7 +15,7 @@ use table_files::{MOST, Numbers};
 use vetting::Vetted;
 
 // The last four numbers, the one that is being read, how many are lent, and whether the rest of the line is a name.
-#[derive(Drop)]
+#[derive(Clone, Copy)]
 struct Desk {
     a: u64,
     b: u64,

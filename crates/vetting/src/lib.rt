@@ -33,7 +33,7 @@ pub const OTHERWISE: u64 = 0x8D;
 // How many entries of level 1 are judged: those of the addresses below 2^32.
 const JUDGED: u64 = 4;
 
-#[derive(Drop)]
+#[derive(Clone, Copy)]
 pub enum Vetted {
     Accepted,
     // why, and the virtual address where it arose

@@ -20,7 +20,7 @@ use setup::Setup;
 use spans::Span;
 
 // What somebody wants to see.
-#[derive(Drop)]
+#[derive(Clone, Copy)]
 pub enum View {
     All,
     // the history of the page that holds this address
@@ -30,7 +30,7 @@ pub enum View {
 }
 
 // What came of a line, and whether it is shown.
-#[derive(Drop)]
+#[derive(Clone, Copy)]
 pub struct Seen {
     pub came: Came,
     pub shown: bool,

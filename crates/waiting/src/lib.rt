@@ -20,7 +20,7 @@ pub type Input = [u8; 65536];
 pub type Output = [u8; 327751];
 
 // How many bytes are to be written, and how many wait.
-#[derive(Drop)]
+#[derive(Clone, Copy)]
 pub struct Due {
     pub put: usize,
     pub kept: usize,

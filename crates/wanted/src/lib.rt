@@ -6,7 +6,7 @@ ghost use Rattle.std.specs.Prelude.{◌≡◌, ◌≤◌, ◌<◌, length, get_o
 ghost use Rattle.hex_digits.specs.Hex.{digit_of, value};
 ghost use Rattle.wanted.specs.Wanted.{is_map, has_prefix, address_by, wanted_by};
 
-#[derive(Drop)]
+#[derive(Clone, Copy)]
 pub enum Wanted {
     Map,
     Page(u64),
