@@ -14,7 +14,7 @@ pub overflow_mul-result-2 : goal.overflow_mul-result-2
 overflow_mul-result-2 c = omega (arith, given_fits _ _ (c.args.mark % 16) c.unit_of-unit.ensures (omega arith))
 
 pub overflow_add-result : goal.overflow_add-result
-overflow_add-result c =     omega (arith, given_in _ _ _ _ c.read-was.ensures c.unit_of-unit.ensures (c.args.mark % 16) (omega arith) (omega arith))
+overflow_add-result c = omega (arith, given_in _ _ _ _ c.read-was.ensures c.unit_of-unit.ensures (c.args.mark % 16) (omega arith) (omega arith))
 
 pub returns : goal.returns
 returns c = put_by _ _ _ _ c.read-was.ensures c.unit_of-unit.ensures _
