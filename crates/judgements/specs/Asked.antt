@@ -285,7 +285,7 @@ module _ (s : Sight) (xs : List ℕ) where
 pub judged_found : (s : Sight) (xs : List ℕ) → one_of s.inner.caller.world callers ≡ true → admitted (called_by xs) ≡ true
     → judged s xs ≡ found s.inner (args_of (called_by xs) xs) (key xs) (handler s.ledger (called_by xs).fast (called_by xs).owner)
 unfolding judged judged_by
-judged_found s xs c ok = sym (goes _ _ _ _ _ _ (Choice.not-false _ c) (goes _ _ _ _ _ _ (Choice.not-false _ ok) (ends _ _ _ refl)))
+judged_found s xs c ok = sym (goes _ _ _ _ _ _ (Choice.not_false _ c) (goes _ _ _ _ _ _ (Choice.not_false _ ok) (ends _ _ _ refl)))
 
 -- A call whose bits 23 to 17 do not pass it is refused, whatever its owner.
 pub judged_reserved : (s : Sight) (xs : List ℕ) → admitted (called_by xs) ≡ false → judged s xs ≡ denied Reason.Unserved

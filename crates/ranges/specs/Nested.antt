@@ -76,7 +76,7 @@ module _ (n m : Mapping) where
   pub windowed : clashes n m ≡ false → meets n m ≡ true → Inner n m ⊎ Inner m n
   unfolding clashes
   windowed c h =
-      nested_is (either (nested n m) (λ y. y) (λ k. absurd (yes_or_no _ (both_true (meets n m) _ h (Choice.not-true (nested n m) k)) c)))
+      nested_is (either (nested n m) (λ y. y) (λ k. absurd (yes_or_no _ (both_true (meets n m) _ h (Choice.not_true (nested n m) k)) c)))
 
   -- and lead alike.
   pub level_both : clashes n m ≡ false → meets n m ≡ true → n.virt + m.phys ≡ m.virt + n.phys
@@ -91,7 +91,7 @@ module _ (n m : Mapping) where
       either (exact n.virt n.size m) (λ y. let z = eqb-true m.size n.size (right_true (eqb m.virt n.virt) _ y) in absurd (omega arith)) (λ k. k) in
       let f : inside n.virt n.size m.virt m.size ≡ true = inside_if _ _ _ _ i.low i.high in
       let g : nested n m ≡ true =
-      both_true _ _ (level_if n.virt n.phys m.virt m.phys i.way) (both_true _ _ (Choice.not-true _ d) (first_or (inside n.virt n.size m.virt m.size) _ f)) in
+      both_true _ _ (level_if n.virt n.phys m.virt m.phys i.way) (both_true _ _ (Choice.not_true _ d) (first_or (inside n.virt n.size m.virt m.size) _ f)) in
       right_false (meets n m) (not (nested n m)) (rw g)
 
   -- Two that hold one virtual address meet.

@@ -57,7 +57,7 @@ module _ (w : Window) (o : List ℕ) (list : List Mapping) (from start count fir
   unfolding transfer_verdict move_tests
   movable_granted m n =
       sym (goes _ _ _ _ _ _ (ne_eqb count 0 n) (ends _ _ _
-      (rw m.lies (goes _ _ _ _ _ _ (Choice.not-false _ m.mine) (goes _ _ _ _ _ _ m.unmet (ends _ _ _ refl))))))
+      (rw m.lies (goes _ _ _ _ _ _ (Choice.not_false _ m.mine) (goes _ _ _ _ _ _ m.unmet (ends _ _ _ refl))))))
 
   -- ---- the owners after a transfer
   module _ (m : Movable w o list from start count first) (page : ℕ) where
