@@ -1,0 +1,13 @@
+-- `lead_of` meets its promise, since it leads by the mapping that decides the address, which starts at or below it.
+use Rattle.mapping.specs.Lists.{list_laws}
+use Rattle.std.proofs.Common.{rules}
+use Rattle.mapping.proofs.lead_of.Goals as goal
+
+pub returns-in_default : goal.returns-in_default
+returns-in_default c = search (rules, list_laws)
+
+pub overflow_sub-address : goal.overflow_sub-address
+overflow_sub-address c = search (rules, list_laws)
+
+pub returns : goal.returns
+returns c = search (rules, list_laws)
