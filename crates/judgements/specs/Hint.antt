@@ -127,6 +127,7 @@ module _ (n : ℕ) where
   unfolding one_of
   known (k ∷ ks) p (inl h) = first_or _ _ (eq-eqb _ _ (key_of_lem k p.0.0 p.0.1 h))
   known (k ∷ ks) p (inr h) = second_or (eqb (key_of (record { 0 = n })) k) _ (known ks p.1 h)
+  known [] p x'' = elim x'' [ ]
 
   unknown : (ks : List ℕ) → (Known n ks → ⊥) → one_of (key_of (record { 0 = n })) ks ≡ false
   unfolding one_of

@@ -68,3 +68,6 @@ module _ (s : HandlerSight) (a : Args) where
   barred_denied (from_realm w d) is = rw (is, ne_eqb w 3 d)
   barred_denied (to_secure k w n d) is = rw (ne_eqb k secure_finish n, is, ne_eqb w 2 d)
   barred_denied (from_secure w d) is = rw (is, ne_eqb w 1 d)
+  barred_denied {k = k} {w = w} (of_power _ _ (inr (inr (inr (inr (inr (inr (inr x16))))))) d) is = elim x16 [ ]
+  barred_denied {k = k} {w = w} (of_granules _ _ (inr (inr x8)) d) is = elim x8 [ ]
+  barred_denied {k = k} {w = w} (of_pages _ _ (inr (inr x9)) c d) is = elim x9 [ ]
