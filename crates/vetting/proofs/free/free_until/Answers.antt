@@ -1,0 +1,14 @@
+-- Where x leads nowhere, so does all before the next edge.
+use borrow.Author.Rules.{rules}
+use Rattle.vetting.specs.Free.{free_empty, free_steady, steady_fits}
+use native.Mathlib.Omega.{arith}
+use Rattle.vetting.proofs.free.free_until.Goals as goal
+
+pub overflow_add-result : goal.overflow_add-result
+overflow_add-result c = omega (arith, steady_fits _ _ _ _ c.steady.ensures)
+
+pub returns-in-To : goal.returns-in-To
+returns-in-To c = free_empty _ _
+
+pub returns-in-Nowhere : goal.returns-in-Nowhere
+returns-in-Nowhere c = search (rules, free_steady)
