@@ -1,0 +1,13 @@
+-- Each pass puts a line, and what is left fills the space as the whole did.
+use mathlib.Core.Path.{◌≡◌}
+use Prim.Native.Nat.{◌≤◌}
+use lib.ListN.{length}
+use Rattle.endings.specs.Rest.{lines_from, filling}
+use Rattle.endings.proofs.put_parts.Given as goal
+
+abbrev pub invariant-loop-out : goal.invariant-loop-out
+invariant-loop-out l = (length l.out ≡ length l.initial.out) × (l.put ≤ length l.out)
+    × (filling (lines_from l.lines l.setup l.owners l.origins l.powers l.turns l.lists l.initial.here) 0 l.initial.out ≡ filling (lines_from l.lines l.setup l.owners l.origins l.powers l.turns l.lists l.here) l.put l.out)
+
+abbrev pub decreases-loop-out : goal.decreases-loop-out
+decreases-loop-out l = length (lines_from l.lines l.setup l.owners l.origins l.powers l.turns l.lists l.here)

@@ -1,0 +1,25 @@
+-- In each arm the thing is known.
+use borrow.Author.Rules.{rules}
+use Rattle.inventory.specs.Inventory.{nexts}
+use Rattle.inventory.proofs.next.Goals as goal
+
+pub returns-in-Head : goal.returns-in-Head
+returns-in-Head c = search (nexts, rules)
+
+pub returns-in-NoWindow : goal.returns-in-NoWindow
+returns-in-NoWindow c = search (nexts, rules)
+
+pub returns-in-Core : goal.returns-in-Core
+returns-in-Core c = search (nexts, rules)
+
+pub returns-in-Range : goal.returns-in-Range
+returns-in-Range c = search (nexts, rules)
+
+pub returns-in-Held : goal.returns-in-Held
+returns-in-Held c = search (nexts, rules)
+
+pub returns-in-NoMappings : goal.returns-in-NoMappings
+returns-in-NoMappings c = search (nexts, rules)
+
+pub returns-in-End : goal.returns-in-End
+returns-in-End c = search (nexts, rules)
