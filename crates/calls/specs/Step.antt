@@ -1,7 +1,7 @@
 -- One step of the whole state: a call is judged, answered and carried out, or a pending core arrives.
 use Rattle.std.specs.Prelude.{Bool, true, false, List, [], ◌∷◌, ℕ}
 use Rattle.rules.specs.Choice.{pick}
-use Rattle.rules.specs.Lent.{Lent}
+use Rattle.rules.specs.Lent.{Lent, LentToRead}
 use Rattle.registers.specs.Registers.{saving}
 use Rattle.cores.specs.Power.{arrived, is_pending, entered}
 use Rattle.cores.specs.Cores.{power, with_power, turn, with_turn}
@@ -32,7 +32,7 @@ abbrev pub state : Site → List ℕ → List ℕ → List ℕ → List ℕ → 
 state w l o r p t m = record { site = w; ledger = l; owners = o; saved = r; powers = p; turns = t; lists = m }
 
 -- what is said of a site, a ledger that is read and lent tables, before and after
-abbrev pub on_state : Site → Lent → Lent → Lent → Lent → Lent → Lent → (State → State → Type 0) → Type 0
+abbrev pub on_state : Site → LentToRead → Lent → Lent → Lent → Lent → Lent → (State → State → Type 0) → Type 0
 on_state w l o r p t m P =
     P (state w l.entry.now o.entry.now r.entry.now p.entry.now t.entry.now m.entry.now)
     (state w l.entry.now o.exit.now r.exit.now p.exit.now t.exit.now m.exit.now)

@@ -183,6 +183,7 @@ among : (n : ℕ) (ks : List ℕ) → Among n ks → one_of n ks ≡ true
 unfolding one_of
 among n (k ∷ ks) (inl e) = first_or (eqb n k) _ (eq-eqb n k e)
 among n (k ∷ ks) (inr m) = second_or (eqb n k) _ (among n ks m)
+among n [] x'' = elim x'' [ ]
 
 -- a call that reaches its handler from a world that may call is judged there
 module _ (c : Call) {id h : ℕ} (e : identifier c ≡ id) (to : Reaches c h) (may : Among (world c) any_world) where
@@ -214,16 +215,20 @@ no_page : (c : Call) → Among (identifier c) one_page → Reaches c 2 → world
 unfolding key_of args_of row_in by_row by_number transferring one_of moving transfer_verdict move_tests pick sieve admitted parts
 no_page c (inl e) to r o = settled c e to (from_realm r) (Answer.No Reason.Invalid) refl refl (rw (r, o))
 no_page c (inr (inl e)) to r o = settled c e to (from_realm r) (Answer.No Reason.Invalid) refl refl (rw (r, o))
+no_page c (inr (inr x6)) to r o = elim x6 [ ]
 
 p6 : Holds (case 6)
 p6 c i to (inl r) f = no_page c i to r (run_no (window c) (x c 1) 1 (λ h. let k = accepted (window c) f.0 in omega (arith, f.1)))
+p6 c i to (inr x3) f = elim x3 [ ]
 
 p7 : Holds (case 7)
 p7 c i to (inl r) f = no_page c i to r (run_past (window c) f.0 (x c 1) 1 (omega (arith, f.1)))
+p7 c i to (inr x3) f = elim x3 [ ]
 
 p8 : Holds (case 8)
 unfolding key_of args_of row_in by_row by_number board mapping map_verdict pick admitted parts
 p8 c (inl e) to may f = settled c e to may Answer.Done refl refl (rw f)
+p8 c (inr x5) to may f = elim x5 [ ]
 
 no_attributes : (m : Mapping) → 2 < m.attr → malformed m ≡ true
 unfolding malformed
@@ -233,6 +238,7 @@ p9 : Holds (case 9)
 unfolding key_of args_of row_in by_row by_number board mapping map_verdict sieve pick admitted parts
 p9 c (inl e) to may f =
     settled c e to may (Answer.No Reason.Malformed) refl refl (rw (no_attributes (wanted (args c)) (omega (arith, f.1)), f.0))
+p9 c (inr x5) to may f = elim x5 [ ]
 
 -- the only mapping has another size: half of none is none, and no mapping has that
 not_half : (c : Call) → HalfTheOnly c → has_exactly (held c.before.lists (world c)) (x c 1) (x c 2) ≡ false
@@ -245,6 +251,7 @@ not_half c h =
 p10 : Holds (case 10)
 unfolding key_of args_of row_in by_row by_number board unmapping sieve pick admitted parts
 p10 c (inl e) to may h = settled c e to may (Answer.No Reason.NoMapping) refl refl (rw (not_half c h))
+p10 c (inr x5) to may h = elim x5 [ ]
 
 module _ (c : Call) (r : world c ≡ normal) where
   no_level : (x c 2 ≡ 0 → ⊥) → telling_state (view c).caller (view c).powers (args c) ≡ denied Reason.Invalid
@@ -268,11 +275,17 @@ p11 : Holds (case 11)
 unfolding key_of row_in by_row by_number standard pick admitted parts
 p11 c (inl e) to (inl r) f = settled c e to (from_normal r) (Answer.No Reason.Invalid) refl refl (no_level c r (λ (z : x c 2 ≡ 0). omega (arith, f)))
 p11 c (inr (inl e)) to (inl r) f = settled c e to (from_normal r) (Answer.No Reason.Invalid) refl refl (no_level c r (λ (z : x c 2 ≡ 0). omega (arith, f)))
+p11 c (inl e) to (inr x7) f = elim x7 [ ]
+p11 c (inr (inl e)) to (inr x9) f = elim x9 [ ]
+p11 c (inr (inr x9)) to _ f = elim x9 [ ]
 
 p12 : Holds (case 12)
 unfolding key_of row_in by_row by_number standard pick admitted parts
 p12 c (inl e) to (inl r) o = settled c e to (from_normal r) (Answer.No Reason.AlreadyOn) refl refl (oneself c r o)
 p12 c (inr (inl e)) to (inl r) o = settled c e to (from_normal r) (Answer.No Reason.AlreadyOn) refl refl (oneself c r o)
+p12 c (inl e) to (inr x7) o = elim x7 [ ]
+p12 c (inr (inl e)) to (inr x9) o = elim x9 [ ]
+p12 c (inr (inr x9)) to _ o = elim x9 [ ]
 
 -- Every row of the table holds.
 pub table_holds : All table
