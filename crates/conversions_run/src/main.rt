@@ -11,11 +11,12 @@
 mod reading;
 mod spaces;
 
-ghost use Rattle.std.specs.Prelude.{◌≤◌, ◌<◌, length};
+ghost use Rattle.std.specs.Prelude.{◌≤◌, ◌<◌, length, IfOk};
 
-use libc::STDIN_FILENO;
 use reading::Line;
 use spaces::{Numbers, ROOM, say};
+use std::io;
+use std::io::Read as _;
 
 // Converts the first places of each space.
 fn convert(l: Line, bytes: &mut [u8], held: usize, numbers: &mut [u64], counted: usize) -> u64 {
@@ -31,48 +32,76 @@ fn convert(l: Line, bytes: &mut [u8], held: usize, numbers: &mut [u64], counted:
     converting::unpack(l.pages, &numbers[0..counted], &mut bytes[0..held])
 }
 
-fn say_status(status: u64) {
+fn say_status(rt: &impl Print, status: u64) -> io::Result<()> {
     match status {
-        converting::CONVERTED => say(b": 00 converted; "),
-        converting::CRAMPED => say(b": 88 not 1 to 4096 pages, or a space that is too small; "),
-        _ => say(b": 89 a byte or mark that is no owner, or padding that is not 0; "),
+        converting::CONVERTED => say(rt, b": 00 converted; "),
+        converting::CRAMPED => say(
+            rt,
+            b": 88 not 1 to 4096 pages, or a space that is too small; ",
+        ),
+        _ => say(
+            rt,
+            b": 89 a byte or mark that is no owner, or padding that is not 0; ",
+        ),
     }
 }
 
-fn play(l: Line, read: &Numbers, numbers: &mut Numbers) {
+fn play(rt: &impl Print, l: Line, read: &Numbers, numbers: &mut Numbers) -> io::Result<()> {
     let mut bytes = spaces::narrow(read);
-    say_status(convert(l, &mut bytes, l.bytes, numbers, l.numbers));
-    spaces::say_space(&spaces::widen(&bytes), l.bytes);
-    say(b"; ");
-    spaces::say_space(numbers, l.numbers);
-    say(b"\n");
+    say_status(rt, convert(l, &mut bytes, l.bytes, numbers, l.numbers))?;
+    spaces::say_space(rt, &spaces::widen(&bytes), l.bytes)?;
+    say(rt, b"; ")?;
+    spaces::say_space(rt, numbers, l.numbers)?;
+    say(rt, b"\n")
 }
 
 // The conversion of a line. It answers where the next line begins.
-fn step(text: &[u8], at: usize, bytes: &mut Numbers, numbers: &mut Numbers) -> usize
+fn step(
+    rt: &impl Print,
+    text: &[u8],
+    at: usize,
+    bytes: &mut Numbers,
+    numbers: &mut Numbers,
+) -> io::Result<usize>
     requires { at < length text.now }
-    ensures { (at < result) × (result ≤ length text.now) }
+    ensures { IfOk result (λ next. (at < next) × (next ≤ length text.now)) }
 {
-    let l = reading::line_at(text, at, bytes, numbers);
+    let l = reading::line_at(rt, text, at, bytes, numbers)?;
     if l.is_whole() {
-        play(l, bytes, numbers);
+        play(rt, l, bytes, numbers)?;
     } else {
-        say(b": no conversion\n");
+        say(rt, b": no conversion\n")?;
     }
-    l.next
+    Ok(l.next)
 }
 
-fn run(text: &[u8]) {
+fn run(rt: &impl Print, text: &[u8]) -> io::Result<()> {
     let mut bytes = [0u64; ROOM];
     let mut numbers = [0u64; ROOM];
     let mut at: usize = 0;
     while at < text.len() {
-        at = step(text, at, &mut bytes, &mut numbers);
+        at = step(rt, text, at, &mut bytes, &mut numbers)?;
     }
+    Ok(())
 }
 
-fn main() {
-    let mut input = io::large_buffer();
-    let n = io::read_full(STDIN_FILENO, &mut input);
-    run(&input[..n]);
+// Reads until the buffer is full or the input ends: how many bytes there are then.
+fn read_full(input: &mut impl io::Read, buf: &mut [u8]) -> io::Result<usize>
+    ensures { IfOk result (λ n. n ≤ length buf.new) }
+{
+    let mut done = 0;
+    while done < buf.len() {
+        let n = input.read(&mut buf[done..])?;
+        if n == 0 {
+            return Ok(done);
+        }
+        done += n;
+    }
+    Ok(done)
+}
+
+fn main(rt: HostRuntime) -> io::Result<()> {
+    let mut input = [0u8; 65536];
+    let n = read_full(&mut rt.reader(), &mut input)?;
+    run(&rt, &input[..n])
 }

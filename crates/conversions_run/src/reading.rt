@@ -1,8 +1,9 @@
 // A line is read from its first sign on: the name is written again, and the values of each space are put into its array.
-ghost use Rattle.std.specs.Prelude.{◌≤◌, ◌<◌, length};
+ghost use Rattle.std.specs.Prelude.{◌≤◌, ◌<◌, length, IfOk};
 
 use crate::spaces;
 use crate::spaces::{Numbers, ROOM};
+use std::io;
 
 // A number, the sign behind it, and where the next one begins.
 #[derive(Clone, Copy)]
@@ -107,29 +108,35 @@ fn name_end(text: &[u8], at: usize) -> usize
     end
 }
 
-pub(crate) fn line_at(text: &[u8], at: usize, bytes: &mut Numbers, numbers: &mut Numbers) -> Line
+pub(crate) fn line_at(
+    rt: &impl Print,
+    text: &[u8],
+    at: usize,
+    bytes: &mut Numbers,
+    numbers: &mut Numbers,
+) -> io::Result<Line>
     requires { at < length text.now }
-    ensures { (at < result.next) × (result.next ≤ length text.now) }
+    ensures { IfOk result (λ l. (at < l.next) × (l.next ≤ length text.now)) }
 {
     let colon = name_end(text, at);
-    spaces::say(&text[at..colon]);
+    spaces::say(rt, &text[at..colon])?;
     if text.len() - colon <= 3 {
-        return Line {
+        return Ok(Line {
             kind: 0,
             pages: 0,
             bytes: 0,
             numbers: 0,
             next: text.len(),
-        };
+        });
     }
     let pages = number_at(text, colon + 3);
     let held = fill(text, pages.next, bytes);
     let counted = fill(text, held.next, numbers);
-    Line {
+    Ok(Line {
         kind: text[colon + 2],
         pages: pages.value,
         bytes: held.count,
         numbers: counted.count,
         next: counted.next,
-    }
+    })
 }

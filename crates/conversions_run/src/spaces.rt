@@ -1,7 +1,7 @@
 // The two spaces of a line: read into arrays, a part of which is lent to the conversion, and written out again.
 ghost use Rattle.std.specs.Prelude.{◌<◌};
 
-use libc::STDOUT_FILENO;
+use std::io;
 
 // Room for a page more than there may be, and for some places behind it.
 pub(crate) const ROOM: usize = 4352;
@@ -10,8 +10,8 @@ pub(crate) type Numbers = [u64; ROOM];
 
 pub(crate) type Bytes = [u8; ROOM];
 
-pub(crate) fn say(text: &[u8]) {
-    io::write_all(STDOUT_FILENO, text);
+pub(crate) fn say(rt: &impl Print, text: &[u8]) -> io::Result<()> {
+    rt.write_all(text)
 }
 
 // Puts a value so many times, from a place on. The answer is the place behind, or one that is past the room.
@@ -69,29 +69,29 @@ fn row_end(space: &Numbers, at: usize, end: usize) -> usize
     to
 }
 
-fn say_row(value: u64, count: u64) {
+fn say_row(rt: &impl Print, value: u64, count: u64) -> io::Result<()> {
     if 1 < count {
-        io::print_hex(STDOUT_FILENO, count, 1);
-        say(b"*");
+        print!(rt; "{count:x}*")?;
     }
-    io::print_hex(STDOUT_FILENO, value, 1);
+    print!(rt; "{value:x}")
 }
 
 // Writes so many values, a row of equal ones at once.
-pub(crate) fn say_space(space: &Numbers, count: usize) {
+pub(crate) fn say_space(rt: &impl Print, space: &Numbers, count: usize) -> io::Result<()> {
     if count == 0 {
-        say(b"0*0");
+        say(rt, b"0*0")?;
     }
     let mut at: usize = 0;
     while at < count {
         if ROOM <= at {
-            return;
+            return Ok(());
         }
         let next = row_end(space, at, count);
-        say_row(space[at], (next - at) as u64);
+        say_row(rt, space[at], (next - at) as u64)?;
         if next < count {
-            say(b",");
+            say(rt, b",")?;
         }
         at = next;
     }
+    Ok(())
 }

@@ -1,97 +1,154 @@
 // Lists the images of a firmware package: fip FILE. Writes one of them to standard output: fip FILE IDENTIFIER.
 #![tactic(auto)]
 
-use libc::{STDERR_FILENO, STDOUT_FILENO};
+ghost use Rattle.std.specs.Prelude.{◌≤◌, length, IfOk};
+
+use std::env::FillError;
+use std::io::{Error, Read};
+use std::rt::{Env, Files};
+use std::{fs, io};
 
 // One byte more than a package has at most, so that a longer file is seen to be one.
 const SPACE: usize = fip_entries::MOST_BYTES + 1;
 
+// Room for any path.
+const PATH: usize = 4096;
+
+// The system's numbers for no fault, for a name that is too long, and for bytes that are no text.
+const NO_FAULT: i32 = 0;
+
+const TOO_LONG: i32 = 36;
+
+const NO_TEXT: i32 = 84;
+
 // A line on standard error.
-fn say(line: &[u8]) {
-    io::write_all(STDERR_FILENO, line);
+fn say(rt: &impl Eprint, line: &str) -> io::Result<()> {
+    eprint!(rt; "{line}")
 }
 
-fn give(bytes: &[u8]) {
-    if !io::write_all(STDOUT_FILENO, bytes) {
-        os::fail(b"standard output");
+// What failed, a colon, and the system's words for the fault.
+fn fail(rt: &(impl Eprint + Alloc), what: &str, e: Error) -> io::Result<()> {
+    let text = format!(in rt.alloc(); "{e}")?;
+    match text.split_once(" (os error ") {
+        Some((words, _)) => eprintln!(rt; "{what}: {words}"),
+        None => eprintln!(rt; "{what}: {text}"),
+    }
+}
+
+fn give(rt: &(impl Print + Eprint + Alloc), bytes: &[u8]) -> io::Result<()> {
+    match rt.write_all(bytes) {
+        Ok(()) => Ok(()),
+        Err(e) => fail(rt, "standard output", e),
     }
 }
 
 // The number of a refusal, and the rule that was broken.
-fn refuse(status: u64) {
+fn refuse(rt: &impl Eprint, status: u64) -> io::Result<()> {
     match status {
-        fip_entries::WRONG_LENGTH => say(b"81: under 16 or over 65536 bytes\n"),
-        fip_entries::WRONG_HEADER => say(b"82: another name than aa640001, or serial number 0\n"),
-        fip_entries::WRONG_TABLE => say(b"83: no whole end entry after at most 64 entries\n"),
-        fip_entries::SAME_IDENTIFIERS => say(b"84: an identifier stands twice\n"),
+        fip_entries::WRONG_LENGTH => say(rt, "81: under 16 or over 65536 bytes\n"),
+        fip_entries::WRONG_HEADER => {
+            say(rt, "82: another name than aa640001, or serial number 0\n")
+        }
+        fip_entries::WRONG_TABLE => { say(rt, "83: no whole end entry after at most 64 entries\n") }
+        fip_entries::SAME_IDENTIFIERS => say(rt, "84: an identifier stands twice\n"),
         fip_entries::WRONG_PLACE => say(
-            b"85: an image outside the package, or over the table or another image\n",
+            rt,
+            "85: an image outside the package, or over the table or another image\n",
         ),
-        _ => say(b"86: no image has this identifier, or it is all zero\n"),
+        _ => say(rt, "86: no image has this identifier, or it is all zero\n"),
     }
 }
 
-fn list(pack: &[u8]) {
+fn list(rt: &(impl Print + Eprint + Alloc), pack: &[u8]) -> io::Result<()> {
     let status = fip_read::judge(pack);
     if status != fip_entries::ACCEPTED {
-        refuse(status);
-        return;
+        return refuse(rt, status);
     }
     let mut lines = [0u8; fip_text::LIST];
     let n = fip_text::put_list(&mut lines, fip_read::table(pack));
-    give(&lines[..n]);
+    give(rt, &lines[..n])
 }
 
-fn show(pack: &[u8], id: &[u8; 16]) {
+fn show(rt: &(impl Print + Eprint + Alloc), pack: &[u8], id: &[u8; 16]) -> io::Result<()> {
     let status = fip_read::status(pack, id);
     if status != fip_entries::ACCEPTED {
-        refuse(status);
-        return;
+        return refuse(rt, status);
     }
-    give(fip_read::find(pack, id));
+    give(rt, fip_read::find(pack, id))
 }
 
-// Whether n bytes are all of the file, or too many for a package: after a read that failed the end is not reached.
-fn is_read(fd: i32, n: usize) -> bool {
+// Reads until the buffer is full or the file ends: how many bytes there are then.
+fn read_full(file: &mut impl Read, buf: &mut [u8]) -> io::Result<usize>
+    ensures { IfOk result (λ n. n ≤ length buf.new) }
+{
+    let mut done = 0;
+    while done < buf.len() {
+        let n = file.read(&mut buf[done..])?;
+        if n == 0 {
+            return Ok(done);
+        }
+        done += n;
+    }
+    Ok(done)
+}
+
+// Whether n bytes are all of the file, or too many for a package.
+fn is_read(file: &mut impl Read, n: usize) -> io::Result<bool> {
+    if n == SPACE {
+        return Ok(true);
+    }
     let mut more = [0u8; 1];
-    n == SPACE || libc::read(fd, &mut more) == 0
+    let got = file.read(&mut more)?;
+    Ok(got == 0)
 }
 
-fn main() {
-    let words = os::arg_count();
+// Reads a file, or as much of it as there is room for: how many bytes there are then.
+fn load(rt: &impl Files, path: &str, pack: &mut [u8]) -> io::Result<usize>
+    ensures { IfOk result (λ n. n ≤ length pack.new) }
+{
+    let mut file = fs::open(rt, path)?;
+    let n = read_full(&mut file, pack)?;
+    if is_read(&mut file, n)? {
+        return Ok(n);
+    }
+    Err(Error::from_raw_os_error(NO_FAULT))
+}
+
+// Whether the program was started with so many words behind its name, or more.
+fn has_word(rt: &impl Env, i: usize) -> bool {
+    let mut word = [0u8; 1];
+    !matches!(rt.arg(i, &mut word), Err(FillError::NotPresent))
+}
+
+fn main(rt: HostRuntime) -> io::Result<()> {
     let mut word = [0u8; 36];
-    let w = os::arg(2, &mut word);
+    let w = rt.arg(2, &mut word).unwrap_or(0);
     let asked = fip_identifiers::identifier(&word[..w]);
-    let is_list = words == 2;
-    let is_image = words == 3 && asked.given;
+    let is_list = has_word(&rt, 1) && !has_word(&rt, 2);
+    let is_image = has_word(&rt, 2) && !has_word(&rt, 3) && asked.given;
     if !is_list && !is_image {
-        say(
-            b"usage: fip FILE, or fip FILE IDENTIFIER with its 32 lower-case digits grouped 8-4-4-4-12\n",
+        return say(
+            &rt,
+            "usage: fip FILE, or fip FILE IDENTIFIER with its 32 lower-case digits grouped 8-4-4-4-12\n",
         );
-        return;
     }
-    let mut path = io::buffer();
-    let p = os::arg(1, &mut path);
-    if os::errno() != 0 {
-        os::fail(b"fip");
-        return;
-    }
-    let fd = os::open_read(&path[..p]);
-    if fd < 0 {
-        os::fail(&path[..p]);
-        return;
-    }
+    let mut room = [0u8; PATH];
+    let p = match rt.arg(1, &mut room) {
+        Ok(p) => p,
+        Err(_) => return fail(&rt, "fip", Error::from_raw_os_error(TOO_LONG)),
+    };
+    let path = match str::from_utf8(&room[..p]) {
+        Ok(path) => path,
+        Err(_) => return fail(&rt, "fip", Error::from_raw_os_error(NO_TEXT)),
+    };
     let mut pack = [0u8; SPACE];
-    let n = io::read_full(fd, &mut pack);
-    if !is_read(fd, n) {
-        os::fail(&path[..p]);
-        return;
-    }
-    libc::close(fd);
+    let n = match load(&rt, path, &mut pack) {
+        Ok(n) => n,
+        Err(e) => return fail(&rt, path, e),
+    };
     if is_list {
-        list(&pack[..n]);
-        return;
+        return list(&rt, &pack[..n]);
     }
     let id = asked.bytes;
-    show(&pack[..n], &id);
+    show(&rt, &pack[..n], &id)
 }

@@ -4,13 +4,31 @@
 mod packs;
 mod rows;
 
-use libc::STDIN_FILENO;
+ghost use Rattle.std.specs.Prelude.{◌≤◌, length, IfOk};
+
+use std::io;
+use std::io::Read as _;
 
 // Room for all rows.
 const INPUT: usize = 4096;
 
-fn main() {
+// Reads until the buffer is full or the input ends: how many bytes there are then.
+fn read_full(input: &mut impl io::Read, buf: &mut [u8]) -> io::Result<usize>
+    ensures { IfOk result (λ n. n ≤ length buf.new) }
+{
+    let mut done = 0;
+    while done < buf.len() {
+        let n = input.read(&mut buf[done..])?;
+        if n == 0 {
+            return Ok(done);
+        }
+        done += n;
+    }
+    Ok(done)
+}
+
+fn main(rt: HostRuntime) -> io::Result<()> {
     let mut input = [0u8; INPUT];
-    let n = io::read_full(STDIN_FILENO, &mut input);
-    rows::play_all(&input[..n]);
+    let n = read_full(&mut rt.reader(), &mut input)?;
+    rows::play_all(&rt, &input[..n])
 }

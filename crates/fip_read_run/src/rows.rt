@@ -5,7 +5,7 @@ ghost use Rattle.std.specs.Prelude.{◌<◌};
 
 use crate::packs;
 use crate::packs::{Fields, Pack};
-use libc::STDOUT_FILENO;
+use std::io;
 
 // The field behind the last is the text, which the space behind the colon begins.
 const TEXT: usize = 7;
@@ -17,25 +17,27 @@ struct Row {
     at: usize,
 }
 
-fn say(text: &[u8]) {
-    io::write_all(STDOUT_FILENO, text);
+fn say(rt: &impl Print, text: &[u8]) -> io::Result<()> {
+    rt.write_all(text)
 }
 
 // Asks the first `length` bytes for the identifier that begins with a number and is zero else.
-fn ask(pack: &Pack, length: usize, n: u8) {
+fn ask(rt: &impl Print, pack: &Pack, length: usize, n: u8) -> io::Result<()> {
     let bytes: &[u8] = pack;
     let mut id = [0u8; 16];
     id[0] = n;
     if length <= bytes.len() {
-        io::print_hex(STDOUT_FILENO, fip_read::status(&bytes[0..length], &id), 2);
+        let status = fip_read::status(&bytes[0..length], &id);
+        print!(rt; "{status:02x}")?;
     }
+    Ok(())
 }
 
-fn play(fields: Fields) {
+fn play(rt: &impl Print, fields: Fields) -> io::Result<()> {
     let pack = packs::package_of(fields);
-    say(b": ");
-    ask(&pack, fields[1] as usize, (fields[2] % 256) as u8);
-    say(b"\n");
+    say(rt, b": ")?;
+    ask(rt, &pack, fields[1] as usize, (fields[2] % 256) as u8)?;
+    say(rt, b"\n")
 }
 
 // A number that is not given is all bits, which is no place.
@@ -76,28 +78,29 @@ fn end(row: Row) -> Row {
     }
 }
 
-fn step(row: Row, b: u8) -> Row {
+fn step(rt: &impl Print, row: Row, b: u8) -> io::Result<Row> {
     if b == b'\n' {
         let fields = row.fields;
-        play(fields);
-        return fresh();
+        play(rt, fields)?;
+        return Ok(fresh());
     }
     if TEXT <= row.at {
-        say(&[b]);
-        return row;
+        say(rt, &[b])?;
+        return Ok(row);
     }
     match b {
-        b':' => end(row),
-        b' ' => begin(row),
-        _ => add(row, b),
+        b':' => Ok(end(row)),
+        b' ' => Ok(begin(row)),
+        _ => Ok(add(row, b)),
     }
 }
 
-pub(crate) fn play_all(input: &[u8]) {
+pub(crate) fn play_all(rt: &impl Print, input: &[u8]) -> io::Result<()> {
     let mut row = fresh();
     let mut i: usize = 0;
     while i < input.len() {
-        row = step(row, input[i]);
+        row = step(rt, row, input[i])?;
         i += 1;
     }
+    Ok(())
 }

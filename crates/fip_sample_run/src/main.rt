@@ -3,7 +3,7 @@
 #![tactic(auto)]
 
 use fip_write::Outcome;
-use libc::STDOUT_FILENO;
+use std::io;
 
 const ENTRY: usize = 40;
 
@@ -22,7 +22,7 @@ fn hours() -> [u8; 16] {
     *b"pump-7-hours\x00\x00\x00\x01"
 }
 
-fn main() {
+fn main(rt: HostRuntime) -> io::Result<()> {
     let pool = b"pump 7 starts at 06:00\nrunning hours 1204, bearings at 900\n";
     let mut plan = [0u8; 3 * ENTRY];
     fip_plan::plan_image(&mut plan, 0, &boot(), 0, 23, 0);
@@ -30,10 +30,11 @@ fn main() {
     fip_plan::plan_image(&mut plan, 2, &hours(), 23, 36, 7);
     let mut out = [0u8; 4096];
     let Outcome::Written(n) = fip_write::write(0x12345678, 0, &plan, pool, &mut out) else {
-        return;
+        return Ok(());
     };
     let whole: &[u8] = &out;
     if n <= whole.len() {
-        io::write_all(STDOUT_FILENO, &whole[0..n]);
+        rt.write_all(&whole[0..n])?;
     }
+    Ok(())
 }

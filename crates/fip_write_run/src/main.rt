@@ -5,9 +5,11 @@
 mod cases;
 mod plans;
 
-fn main() {
-    cases::numbers();
-    cases::tables();
-    cases::places();
-    cases::rooms();
+use std::io;
+
+fn main(rt: HostRuntime) -> io::Result<()> {
+    cases::numbers(&rt)?;
+    cases::tables(&rt)?;
+    cases::places(&rt)?;
+    cases::rooms(&rt)
 }

@@ -1,6 +1,6 @@
 // A plan, and what the writer makes of it.
 use fip_write::Outcome;
-use libc::STDOUT_FILENO;
+use std::io;
 
 const ENTRY: usize = 40;
 
@@ -15,8 +15,8 @@ const SPACE: usize = 65537;
 // What every byte of the space is before a write.
 const BEFORE: u8 = 0x5a;
 
-fn say(text: &[u8]) {
-    io::write_all(STDOUT_FILENO, text);
+fn say(rt: &impl Print, text: &str) -> io::Result<()> {
+    print!(rt; "{text}")
 }
 
 // The plan with image k set. Its identifier begins with a number and is zero else.
@@ -45,16 +45,10 @@ pub(crate) fn many() -> Plan {
     plan
 }
 
-fn tell(answer: Outcome) {
+fn tell(rt: &impl Print, answer: Outcome) -> io::Result<()> {
     match answer {
-        Outcome::Written(n) => {
-            say(b": written ");
-            io::print_decimal(STDOUT_FILENO, n as u64);
-        }
-        Outcome::Refused(v) => {
-            say(b": ");
-            io::print_hex(STDOUT_FILENO, v, 2);
-        }
+        Outcome::Written(n) => print!(rt; ": written {n}"),
+        Outcome::Refused(v) => print!(rt; ": {v:02x}"),
     }
 }
 
@@ -69,29 +63,39 @@ fn is_kept(out: &[u8]) -> bool {
     true
 }
 
-fn write_into(serial: u32, plan: &[u8], out: &mut [u8]) {
+fn write_into(rt: &impl Print, serial: u32, plan: &[u8], out: &mut [u8]) -> io::Result<()> {
     let images = [1u8; POOL];
-    tell(fip_write::write(serial, 0, plan, &images, out));
+    tell(rt, fip_write::write(serial, 0, plan, &images, out))?;
     if is_kept(out) {
-        say(b", nothing written");
+        say(rt, ", nothing written")?;
     }
+    Ok(())
 }
 
-fn write_fresh(serial: u32, plan: &[u8], space: usize) {
+fn write_fresh(rt: &impl Print, serial: u32, plan: &[u8], space: usize) -> io::Result<()> {
     let mut fresh = [BEFORE; SPACE];
     let out: &mut [u8] = &mut fresh;
     if space <= out.len() {
-        write_into(serial, plan, &mut out[0..space]);
+        write_into(rt, serial, plan, &mut out[0..space])?;
     }
+    Ok(())
 }
 
 // Writes the first n images of a plan into a space of so many bytes.
-pub(crate) fn write(text: &[u8], serial: u32, d: Plan, n: u8, space: usize) {
+pub(crate) fn write(
+    rt: &impl Print,
+    text: &str,
+    serial: u32,
+    d: Plan,
+    n: u8,
+    space: usize,
+) -> io::Result<()> {
     let plan: &[u8] = &d;
     let end = ENTRY * n as usize;
     if end <= plan.len() {
-        say(text);
-        write_fresh(serial, &plan[0..end], space);
-        say(b"\n");
+        say(rt, text)?;
+        write_fresh(rt, serial, &plan[0..end], space)?;
+        say(rt, "\n")?;
     }
+    Ok(())
 }

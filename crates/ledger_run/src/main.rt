@@ -2,8 +2,8 @@
 #![tactic(auto)]
 
 use ledger::{Ledger, Lookup};
-use libc::STDOUT_FILENO;
 use rules::Entered;
+use std::io;
 
 // An entry of first and last owner, type and handler; a lookup of type and owner; or how many places are in use.
 #[derive(Clone, Copy)]
@@ -13,44 +13,50 @@ enum Step {
     Count,
 }
 
-fn say(text: &[u8]) {
-    io::write_all(STDOUT_FILENO, text);
+fn say(rt: &impl Print, text: &str) -> io::Result<()> {
+    print!(rt; "{text}")
 }
 
-fn number(label: &[u8], n: u64) {
-    say(label);
-    io::print_decimal(STDOUT_FILENO, n);
+fn number(rt: &impl Print, label: &str, n: u64) -> io::Result<()> {
+    print!(rt; "{label}{n}")
 }
 
-fn say_entry(first: u64, last: u64, kind: u64, handler: u64) {
-    number(b"owners ", first);
-    number(b" to ", last);
-    number(b", type ", kind);
-    number(b", for handler ", handler);
+fn say_entry(rt: &impl Print, first: u64, last: u64, kind: u64, handler: u64) -> io::Result<()> {
+    number(rt, "owners ", first)?;
+    number(rt, " to ", last)?;
+    number(rt, ", type ", kind)?;
+    number(rt, ", for handler ", handler)
 }
 
-fn enter(t: &mut Ledger, first: u64, last: u64, kind: u64, handler: u64) {
-    say_entry(first, last, kind, handler);
+fn enter(
+    rt: &impl Print,
+    t: &mut Ledger,
+    first: u64,
+    last: u64,
+    kind: u64,
+    handler: u64,
+) -> io::Result<()> {
+    say_entry(rt, first, last, kind, handler)?;
     match ledger::enter(t, first, last, kind, handler) {
-        Entered::Accepted => say(b": accepted\n"),
-        Entered::OutOfRange => say(b": out of range\n"),
-        Entered::Taken => say(b": taken\n"),
+        Entered::Accepted => say(rt, ": accepted\n"),
+        Entered::OutOfRange => say(rt, ": out of range\n"),
+        Entered::Taken => say(rt, ": taken\n"),
     }
 }
 
-fn look(t: &Ledger, kind: u32, owner: u32) {
-    number(b"type ", kind as u64);
-    number(b", owner ", owner as u64);
+fn look(rt: &impl Print, t: &Ledger, kind: u32, owner: u32) -> io::Result<()> {
+    number(rt, "type ", kind as u64)?;
+    number(rt, ", owner ", owner as u64)?;
     match ledger::handler_of(t, kind, owner) {
-        Lookup::Handler(h) => number(b": handler ", h),
-        Lookup::Nobody => say(b": nobody"),
+        Lookup::Handler(h) => number(rt, ": handler ", h)?,
+        Lookup::Nobody => say(rt, ": nobody")?,
     }
-    say(b"\n");
+    say(rt, "\n")
 }
 
-fn count(t: &Ledger) {
-    number(b"places in use: ", ledger::used(t));
-    say(b"\n");
+fn count(rt: &impl Print, t: &Ledger) -> io::Result<()> {
+    number(rt, "places in use: ", ledger::used(t))?;
+    say(rt, "\n")
 }
 
 // The steps on the first ledger, in their order.
@@ -105,23 +111,24 @@ const WHOLE: [Step; 9] = [
     Step::Count,
 ];
 
-fn play(t: &mut Ledger, step: Step) {
+fn play(rt: &impl Print, t: &mut Ledger, step: Step) -> io::Result<()> {
     match step {
-        Step::Enter(first, last, kind, handler) => enter(t, first, last, kind, handler),
-        Step::Look(kind, owner) => look(t, kind, owner),
-        Step::Count => count(t),
+        Step::Enter(first, last, kind, handler) => enter(rt, t, first, last, kind, handler),
+        Step::Look(kind, owner) => look(rt, t, kind, owner),
+        Step::Count => count(rt, t),
     }
 }
 
-fn main() {
+fn main(rt: HostRuntime) -> io::Result<()> {
     let mut t = ledger::fresh();
     let steps = STEPS;
     for i in 0..28 {
-        play(&mut t, steps[i]);
+        play(&rt, &mut t, steps[i])?;
     }
     let mut u = ledger::fresh();
     let whole = WHOLE;
     for j in 0..9 {
-        play(&mut u, whole[j]);
+        play(&rt, &mut u, whole[j])?;
     }
+    Ok(())
 }

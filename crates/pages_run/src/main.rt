@@ -13,12 +13,13 @@
 // The first two have no name, and nothing is written of them.
 #![tactic(auto)]
 
-ghost use Rattle.std.specs.Prelude.{◌+◌, ◌≤◌, ◌<◌, length};
+ghost use Rattle.std.specs.Prelude.{◌+◌, ◌≤◌, ◌<◌, length, IfOk};
 
-use libc::{STDIN_FILENO, STDOUT_FILENO};
 use mapping::{Lists, Mapping};
 use pages::{Owners, Window};
 use rules::{ROOT, Reason};
+use std::io;
+use std::io::Read as _;
 
 // What a line asks for, and where its name begins.
 #[derive(Clone, Copy)]
@@ -46,27 +47,23 @@ enum Answer {
     Refused(Reason),
 }
 
-fn say(text: &[u8]) {
-    io::write_all(STDOUT_FILENO, text);
+fn say(rt: &impl Print, text: &[u8]) -> io::Result<()> {
+    rt.write_all(text)
 }
 
-fn number(sign: &[u8], n: u64) {
-    say(sign);
-    io::print_decimal(STDOUT_FILENO, n);
-    say(b"\n");
+fn number(rt: &impl Print, sign: &str, n: u64) -> io::Result<()> {
+    println!(rt; "{sign}{n}")
 }
 
-fn marks(n: u64) {
-    say(b": ");
-    io::print_hex(STDOUT_FILENO, n, 16);
-    say(b"\n");
+fn marks(rt: &impl Print, n: u64) -> io::Result<()> {
+    println!(rt; ": {n:016x}")
 }
 
-fn say_answer(a: Answer) {
+fn say_answer(rt: &impl Print, a: Answer) -> io::Result<()> {
     match a {
-        Answer::Number(n) => number(b": ", n),
-        Answer::Marks(n) => marks(n),
-        Answer::Refused(r) => number(b": -", rules::minus_of(r)),
+        Answer::Number(n) => number(rt, ": ", n),
+        Answer::Marks(n) => marks(rt, n),
+        Answer::Refused(r) => number(rt, ": -", rules::minus_of(r)),
     }
 }
 
@@ -143,16 +140,16 @@ fn end_of(text: &[u8], at: usize) -> usize
 }
 
 // Writes the rest of the line. It answers where the next line begins.
-fn say_name(text: &[u8], at: usize) -> usize
+fn say_name(rt: &impl Print, text: &[u8], at: usize) -> io::Result<usize>
     requires { at ≤ length text.now }
-    ensures { (at ≤ result) × (result ≤ length text.now) }
+    ensures { IfOk result (λ next. (at ≤ next) × (next ≤ length text.now)) }
 {
     let end = end_of(text, at);
-    say(&text[at..end]);
+    say(rt, &text[at..end])?;
     if end < text.len() {
-        return end + 1;
+        return Ok(end + 1);
     }
-    end
+    Ok(end)
 }
 
 fn window(base: u64, pages: u64) -> Answer {
@@ -223,24 +220,31 @@ fn act(w: Window, owners: &mut Owners, lists: &mut Lists, s: Step) -> Answer {
 }
 
 // The step of a line. It answers where the next line begins.
-fn play(text: &[u8], at: usize, w: Window, owners: &mut Owners, lists: &mut Lists) -> usize
+fn play(
+    rt: &impl Print,
+    text: &[u8],
+    at: usize,
+    w: Window,
+    owners: &mut Owners,
+    lists: &mut Lists,
+) -> io::Result<usize>
     requires { at < length text.now }
-    ensures { (at < result) × (result ≤ length text.now) }
+    ensures { IfOk result (λ next. (at < next) × (next ≤ length text.now)) }
 {
     let s = step_at(text, at);
     if s.kind == b'g' {
         pages::give(owners, s.a, s.b, s.c);
-        return s.next;
+        return Ok(s.next);
     }
-    let next = say_name(text, s.next);
-    say_answer(act(w, owners, lists, s));
-    next
+    let next = say_name(rt, text, s.next)?;
+    say_answer(rt, act(w, owners, lists, s))?;
+    Ok(next)
 }
 
 // The steps of one window. It answers where the next window's line begins.
-fn scene(text: &[u8], at: usize) -> usize
+fn scene(rt: &impl Print, text: &[u8], at: usize) -> io::Result<usize>
     requires { at < length text.now }
-    ensures { (at < result) × (result ≤ length text.now) }
+    ensures { IfOk result (λ next. (at < next) × (next ≤ length text.now)) }
 {
     let s = step_at(text, at);
     let w = Window {
@@ -253,22 +257,38 @@ fn scene(text: &[u8], at: usize) -> usize
     let mut next = s.next;
     while next < text.len() {
         if text[next] == b'o' {
-            return next;
+            return Ok(next);
         }
-        next = play(text, next, w, &mut owners, &mut lists);
+        next = play(rt, text, next, w, &mut owners, &mut lists)?;
     }
-    next
+    Ok(next)
 }
 
-fn run(text: &[u8]) {
+fn run(rt: &impl Print, text: &[u8]) -> io::Result<()> {
     let mut at = 0;
     while at < text.len() {
-        at = scene(text, at);
+        at = scene(rt, text, at)?;
     }
+    Ok(())
 }
 
-fn main() {
-    let mut buf = io::large_buffer();
-    let n = io::read_full(STDIN_FILENO, &mut buf);
-    run(&buf[..n]);
+// Reads until the buffer is full or the input ends: how many bytes there are then.
+fn read_full(input: &mut impl io::Read, buf: &mut [u8]) -> io::Result<usize>
+    ensures { IfOk result (λ n. n ≤ length buf.new) }
+{
+    let mut done = 0;
+    while done < buf.len() {
+        let n = input.read(&mut buf[done..])?;
+        if n == 0 {
+            return Ok(done);
+        }
+        done += n;
+    }
+    Ok(done)
+}
+
+fn main(rt: HostRuntime) -> io::Result<()> {
+    let mut buf = [0u8; 65536];
+    let n = read_full(&mut rt.reader(), &mut buf)?;
+    run(&rt, &buf[..n])
 }

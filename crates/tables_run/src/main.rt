@@ -6,9 +6,9 @@
 ghost use Rattle.std.specs.Prelude.{◌<◌, ◌≤◌};
 
 use building::Built;
-use libc::STDOUT_FILENO;
 use mapping::{Lead, Lists, Mapping};
 use rules::SECURE;
+use std::io;
 
 // Enough for the tables of any run.
 const LENT: usize = 22528;
@@ -24,8 +24,8 @@ const BASE: u64 = 0x80000000;
 
 const WIDEST: u64 = SLOT * (3 * ENTRIES + 256) - PAGE;
 
-fn say(text: &[u8]) {
-    io::write_all(STDOUT_FILENO, text);
+fn say(rt: &impl Print, text: &str) -> io::Result<()> {
+    print!(rt; "{text}")
 }
 
 // How many of so many entries from a place on go page by page.
@@ -45,85 +45,74 @@ fn run_at(numbers: &[u64], at: u64, most: u64) -> u64
 }
 
 // A run of entries, unless they are unused.
-fn say_run(table: u64, i: u64, number: u64, n: u64) {
+fn say_run(rt: &impl Print, table: u64, i: u64, number: u64, n: u64) -> io::Result<()> {
     if number == 0 {
-        return;
+        return Ok(());
     }
-    io::print_hex(STDOUT_FILENO, table, 2);
-    say(b" ");
-    io::print_hex(STDOUT_FILENO, i, 3);
-    say(b" ");
-    io::print_hex(STDOUT_FILENO, number, 16);
-    say(b" ");
-    io::print_hex(STDOUT_FILENO, n, 3);
-    say(b"\n");
+    println!(rt; "{table:02x} {i:03x} {number:016x} {n:03x}")
 }
 
-fn say_table(numbers: &[u64], table: u64)
+fn say_table(rt: &impl Print, numbers: &[u64], table: u64) -> io::Result<()>
     requires { table < 44 }
 {
     let mut i = 0;
     while i < ENTRIES {
         let at = ENTRIES * table + i;
         let n = run_at(numbers, at, ENTRIES - i);
-        say_run(table, i, walks::number_at(numbers, at), n);
+        say_run(rt, table, i, walks::number_at(numbers, at), n)?;
         i += n;
     }
+    Ok(())
 }
 
-fn say_tables(numbers: &[u64; LENT], count: u64) {
+fn say_tables(rt: &impl Print, numbers: &[u64; LENT], count: u64) -> io::Result<()> {
     let all: &[u64] = numbers;
     let mut table = 0;
     while table < 44 {
         if count <= table {
-            return;
+            return Ok(());
         }
-        say_table(all, table);
+        say_table(rt, all, table)?;
         table += 1;
     }
+    Ok(())
 }
 
 // Where an address leads, and what may be done there.
-fn say_lead(numbers: &[u64], address: u64) {
+fn say_lead(rt: &impl Print, numbers: &[u64], address: u64) -> io::Result<()> {
     let Lead::To { phys, attr } = walks::walk(numbers, address) else {
-        return;
+        return Ok(());
     };
-    io::print_hex(STDOUT_FILENO, address, 8);
-    say(b" to ");
-    io::print_hex(STDOUT_FILENO, phys, 8);
-    say(b" ");
-    io::print_hex(STDOUT_FILENO, attr, 1);
-    say(b"\n");
+    println!(rt; "{address:08x} to {phys:08x} {attr:x}")
 }
 
 // A page, the edges of the first slots, the second GiB, where the widest list begins, and what lies a page behind 2^32.
-fn say_leads(numbers: &[u64; LENT]) {
+fn say_leads(rt: &impl Print, numbers: &[u64; LENT]) -> io::Result<()> {
     let all: &[u64] = numbers;
-    say_lead(all, PAGE + 8);
-    say_lead(all, SLOT - 1);
-    say_lead(all, SLOT);
-    say_lead(all, SLOT + PAGE + 4);
-    say_lead(all, 2 * SLOT);
-    say_lead(all, 3 * SLOT);
-    say_lead(all, ENTRIES * SLOT + 0x123456);
-    say_lead(all, WIDEST);
-    say_lead(all, 0x100000000 + PAGE + 8);
+    say_lead(rt, all, PAGE + 8)?;
+    say_lead(rt, all, SLOT - 1)?;
+    say_lead(rt, all, SLOT)?;
+    say_lead(rt, all, SLOT + PAGE + 4)?;
+    say_lead(rt, all, 2 * SLOT)?;
+    say_lead(rt, all, 3 * SLOT)?;
+    say_lead(rt, all, ENTRIES * SLOT + 0x123456)?;
+    say_lead(rt, all, WIDEST)?;
+    say_lead(rt, all, 0x100000000 + PAGE + 8)
 }
 
 // The tables of Secure's list, in so many numbers.
-fn show(name: &[u8], lists: &Lists, room: usize)
+fn show(rt: &impl Print, name: &str, lists: &Lists, room: usize) -> io::Result<()>
     requires { room ≤ 22528 }
 {
-    say(name);
+    say(rt, name)?;
     let mut numbers = [0u64; LENT];
     let built = building::build(&mut numbers[0..room], lists, SECURE);
     match built {
-        Built::NoRoom => say(b"88\n"),
+        Built::NoRoom => say(rt, "88\n"),
         Built::Tables(count) => {
-            say_tables(&numbers, count);
-            io::print_hex(STDOUT_FILENO, count, 2);
-            say(b"\n");
-            say_leads(&numbers);
+            say_tables(rt, &numbers, count)?;
+            println!(rt; "{count:02x}")?;
+            say_leads(rt, &numbers)
         }
     }
 }
@@ -141,42 +130,49 @@ fn map(lists: &mut Lists, virt: u64, phys: u64, size: u64, attr: u64) {
     );
 }
 
-fn show_one(name: &[u8], virt: u64, phys: u64, size: u64, attr: u64) {
+fn show_one(
+    rt: &impl Print,
+    name: &str,
+    virt: u64,
+    phys: u64,
+    size: u64,
+    attr: u64,
+) -> io::Result<()> {
     let mut lists = mapping::fresh();
     map(&mut lists, virt, phys, size, attr);
-    show(name, &lists, LENT);
+    show(rt, name, &lists, LENT)
 }
 
 // Two mappings fill a slot.
-fn show_beside() {
+fn show_beside(rt: &impl Print) -> io::Result<()> {
     let mut lists = mapping::fresh();
     map(&mut lists, SLOT, BASE, SLOT / 2, 1);
     map(&mut lists, SLOT + SLOT / 2, BASE + SLOT / 2, SLOT / 2, 1);
-    show(b"two that fill a slot\n", &lists, LENT);
+    show(rt, "two that fill a slot\n", &lists, LENT)
 }
 
 // A page of other attributes in a mapping of two slots.
-fn show_page_in() {
+fn show_page_in(rt: &impl Print) -> io::Result<()> {
     let mut lists = mapping::fresh();
     map(&mut lists, SLOT, BASE, 2 * SLOT, 1);
     map(&mut lists, SLOT + PAGE, BASE + PAGE, PAGE, 0);
-    show(b"a page inside\n", &lists, LENT);
+    show(rt, "a page inside\n", &lists, LENT)
 }
 
 // A page of the same attributes splits its slot too.
-fn show_same_in() {
+fn show_same_in(rt: &impl Print) -> io::Result<()> {
     let mut lists = mapping::fresh();
     map(&mut lists, SLOT, BASE, SLOT, 1);
     map(&mut lists, SLOT + PAGE, BASE + PAGE, PAGE, 1);
-    show(b"a page of the same attributes inside\n", &lists, LENT);
+    show(rt, "a page of the same attributes inside\n", &lists, LENT)
 }
 
 // A whole slot of other attributes in a mapping of three.
-fn show_slot_in() {
+fn show_slot_in(rt: &impl Print) -> io::Result<()> {
     let mut lists = mapping::fresh();
     map(&mut lists, SLOT, BASE, 3 * SLOT, 1);
     map(&mut lists, 2 * SLOT, BASE + SLOT, SLOT, 2);
-    show(b"a slot inside\n", &lists, LENT);
+    show(rt, "a slot inside\n", &lists, LENT)
 }
 
 // A pair of pages on both sides of a slot's start, in GiB g.
@@ -201,7 +197,7 @@ fn map_pairs(lists: &mut Lists, i: u64, g: u64)
 }
 
 // Seven slots that are no blocks and the two beside them, and fifteen pairs of pages: 39 slots in four GiB.
-fn show_widest(name: &[u8], room: usize)
+fn show_widest(rt: &impl Print, name: &str, room: usize) -> io::Result<()>
     requires { room ≤ 22528 }
 {
     let mut lists = mapping::fresh();
@@ -213,28 +209,29 @@ fn show_widest(name: &[u8], room: usize)
     map_pairs(&mut lists, 9, 2);
     map_pair(&mut lists, 12, 2, 14);
     map_pairs(&mut lists, 13, 3);
-    show(name, &lists, room);
+    show(rt, name, &lists, room)
 }
 
-fn main() {
+fn main(rt: HostRuntime) -> io::Result<()> {
     let none = mapping::fresh();
-    show(b"nothing\n", &none, LENT);
-    show(b"nothing in 511 numbers\n", &none, 511);
-    show_one(b"a page\n", PAGE, BASE + 3 * PAGE, PAGE, 1);
-    show_one(b"a slot\n", SLOT, BASE + SLOT, SLOT, 2);
-    show_one(b"a slot at physical 0\n", ENTRIES * SLOT, 0, SLOT, 1);
-    show_one(b"a slot a page too far\n", SLOT, BASE + PAGE, SLOT, 1);
+    show(&rt, "nothing\n", &none, LENT)?;
+    show(&rt, "nothing in 511 numbers\n", &none, 511)?;
+    show_one(&rt, "a page\n", PAGE, BASE + 3 * PAGE, PAGE, 1)?;
+    show_one(&rt, "a slot\n", SLOT, BASE + SLOT, SLOT, 2)?;
+    show_one(&rt, "a slot at physical 0\n", ENTRIES * SLOT, 0, SLOT, 1)?;
+    show_one(&rt, "a slot a page too far\n", SLOT, BASE + PAGE, SLOT, 1)?;
     show_one(
-        b"two slots and a page on each side\n",
+        &rt,
+        "two slots and a page on each side\n",
         SLOT - PAGE,
         BASE + SLOT - PAGE,
         2 * SLOT + 2 * PAGE,
         0,
-    );
-    show_beside();
-    show_page_in();
-    show_same_in();
-    show_slot_in();
-    show_widest(b"the widest\n", LENT);
-    show_widest(b"the widest in 22,527 numbers\n", LENT - 1);
+    )?;
+    show_beside(&rt)?;
+    show_page_in(&rt)?;
+    show_same_in(&rt)?;
+    show_slot_in(&rt)?;
+    show_widest(&rt, "the widest\n", LENT)?;
+    show_widest(&rt, "the widest in 22,527 numbers\n", LENT - 1)
 }

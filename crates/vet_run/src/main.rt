@@ -8,9 +8,12 @@
 // v NAME: the tables are vetted, and a line of the output has what came of it, and the rest of this line
 #![tactic(auto)]
 
-use libc::{STDIN_FILENO, STDOUT_FILENO};
+ghost use Rattle.std.specs.Prelude.{◌≤◌, length, IfOk};
+
 use mapping::{Lists, Mapping};
 use rules::NORMAL;
+use std::io;
+use std::io::Read as _;
 use table_files::{MOST, Numbers};
 use vetting::Vetted;
 
@@ -26,28 +29,25 @@ struct Desk {
     named: bool,
 }
 
-fn say(text: &[u8]) {
-    io::write_all(STDOUT_FILENO, text);
+fn say(rt: &impl Print, text: &[u8]) -> io::Result<()> {
+    rt.write_all(text)
 }
 
-fn tell(v: Vetted) {
+fn tell(rt: &impl Print, v: Vetted) -> io::Result<()> {
     match v {
-        Vetted::Accepted => say(b"accepted"),
-        Vetted::Refused { status, at } => {
-            io::print_hex(STDOUT_FILENO, status, 2);
-            say(b" ");
-            io::print_hex(STDOUT_FILENO, at, 8);
-        }
+        Vetted::Accepted => say(rt, b"accepted"),
+        Vetted::Refused { status, at } => print!(rt; "{status:02x} {at:08x}"),
     }
 }
 
 // The first numbers against what Normal has mapped.
-fn vet_first(numbers: &Numbers, lent: u64, lists: &Lists) {
+fn vet_first(rt: &impl Print, numbers: &Numbers, lent: u64, lists: &Lists) -> io::Result<()> {
     let all: &[u64] = numbers;
     let n = lent as usize;
     if n <= all.len() {
-        tell(vetting::vet(&all[0..n], lists, NORMAL));
+        tell(rt, vetting::vet(&all[0..n], lists, NORMAL))?;
     }
+    Ok(())
 }
 
 fn put(numbers: &mut Numbers, at: u64, v: u64) {
@@ -75,7 +75,13 @@ fn read(desk: Desk, sign: u8) -> Desk {
 }
 
 // What a letter asks for.
-fn act(desk: Desk, sign: u8, numbers: &mut Numbers, lists: &mut Lists) -> Desk {
+fn act(
+    rt: &impl Print,
+    desk: Desk,
+    sign: u8,
+    numbers: &mut Numbers,
+    lists: &mut Lists,
+) -> io::Result<Desk> {
     let mut next = desk;
     match sign {
         b'o' => {
@@ -97,27 +103,33 @@ fn act(desk: Desk, sign: u8, numbers: &mut Numbers, lists: &mut Lists) -> Desk {
         }
         b'n' => put(numbers, desk.c, desk.d),
         b'v' => {
-            vet_first(numbers, desk.lent, lists);
+            vet_first(rt, numbers, desk.lent, lists)?;
             next.named = true;
         }
         _ => {
             next = read(desk, sign);
         }
     }
-    next
+    Ok(next)
 }
 
-fn take(desk: Desk, sign: u8, numbers: &mut Numbers, lists: &mut Lists) -> Desk {
+fn take(
+    rt: &impl Print,
+    desk: Desk,
+    sign: u8,
+    numbers: &mut Numbers,
+    lists: &mut Lists,
+) -> io::Result<Desk> {
     if desk.named {
         let mut next = desk;
-        say(&[sign]);
+        say(rt, &[sign])?;
         next.named = sign != b'\n';
-        return next;
+        return Ok(next);
     }
-    act(desk, sign, numbers, lists)
+    act(rt, desk, sign, numbers, lists)
 }
 
-fn play(text: &[u8], numbers: &mut Numbers, lists: &mut Lists) {
+fn play(rt: &impl Print, text: &[u8], numbers: &mut Numbers, lists: &mut Lists) -> io::Result<()> {
     let mut desk = Desk {
         a: 0,
         b: 0,
@@ -129,15 +141,31 @@ fn play(text: &[u8], numbers: &mut Numbers, lists: &mut Lists) {
     };
     let mut i: usize = 0;
     while i < text.len() {
-        desk = take(desk, text[i], numbers, lists);
+        desk = take(rt, desk, text[i], numbers, lists)?;
         i += 1;
     }
+    Ok(())
 }
 
-fn main() {
-    let mut buf = io::large_buffer();
-    let n = io::read_full(STDIN_FILENO, &mut buf);
+// Reads until the buffer is full or the input ends: how many bytes there are then.
+fn read_full(input: &mut impl io::Read, buf: &mut [u8]) -> io::Result<usize>
+    ensures { IfOk result (λ n. n ≤ length buf.new) }
+{
+    let mut done = 0;
+    while done < buf.len() {
+        let n = input.read(&mut buf[done..])?;
+        if n == 0 {
+            return Ok(done);
+        }
+        done += n;
+    }
+    Ok(done)
+}
+
+fn main(rt: HostRuntime) -> io::Result<()> {
+    let mut buf = [0u8; 65536];
+    let n = read_full(&mut rt.reader(), &mut buf)?;
     let mut numbers = [0u64; MOST];
     let mut lists = mapping::fresh();
-    play(&buf[..n], &mut numbers, &mut lists);
+    play(&rt, &buf[..n], &mut numbers, &mut lists)
 }
