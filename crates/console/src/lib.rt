@@ -12,7 +12,6 @@ use mapping::Lists;
 use pages::{Named, Owners};
 use registers::Saved;
 use setup::Setup;
-use waiting::{Input, Output};
 
 // Writes so many answers, if it is loud: whether they could be written.
 fn pass_on(rt: &impl Print, loud: bool, out: &[u8], n: usize) -> bool {
@@ -27,8 +26,8 @@ fn pass_on(rt: &impl Print, loud: bool, out: &[u8], n: usize) -> bool {
 fn serve(
     rt: &(impl Input + Print),
     loud: bool,
-    buf: &mut Input,
-    out: &mut Output,
+    buf: &mut waiting::Input,
+    out: &mut waiting::Output,
     setup: &mut Setup,
     named: &mut Named,
     book: &mut Ledger,

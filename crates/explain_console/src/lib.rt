@@ -6,7 +6,6 @@ ghost use Rattle.frames.specs.Frames.{Machine, on_machine};
 ghost use Rattle.explain_reads.specs.Reading.{Ran};
 
 use cores::{Powers, Turns};
-use explain_reads::{Input, Output};
 use ledger::Ledger;
 use mapping::Lists;
 use origins::{Lines, Origins};
@@ -20,8 +19,8 @@ use views::View;
 fn serve(
     rt: &(impl Input + Print),
     view: View,
-    buf: &mut Input,
-    out: &mut Output,
+    buf: &mut explain_reads::Input,
+    out: &mut explain_reads::Output,
     origins: &mut Origins,
     count: &mut Lines,
     setup: &mut Setup,
@@ -76,7 +75,7 @@ pub fn explain(
     let mut buf = [0u8; 1024];
     let mut out = [0u8; 3146752];
     serve(
-        rt, view, &mut buf, &mut out, origins, count, setup, named, book, owners, saved, powers, turns,
-        lists,
+        rt, view, &mut buf, &mut out, origins, count, setup, named, book, owners, saved, powers,
+        turns, lists,
     )
 }

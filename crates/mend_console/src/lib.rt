@@ -9,7 +9,6 @@ ghost use Rattle.mend_reads.specs.Reading.{Ran, Mends};
 use cores::{Powers, Turns};
 use ledger::Ledger;
 use mapping::Lists;
-use mend_reads::Input;
 use pages::{Named, Owners};
 use registers::Saved;
 use setup::Setup;
@@ -18,7 +17,7 @@ use sheets::{Dropped, Ends, Kept};
 // Reads until the input ends: whether it did. The count only has the loop end: no input needs so many reads.
 fn serve(
     rt: &impl Input,
-    buf: &mut Input,
+    buf: &mut mend_reads::Input,
     kept: &mut Kept,
     dropped: &mut Dropped,
     ends: &mut Ends,

@@ -13,14 +13,13 @@ use mapping::Lists;
 use pages::{Named, Owners};
 use registers::Saved;
 use report_text::Output;
-use reporting::Input;
 use setup::Setup;
 use tallies::Tally;
 
 // Reads until the input ends: whether it did. The count only has the loop end: no input needs so many reads.
 fn serve(
     rt: &impl Input,
-    buf: &mut Input,
+    buf: &mut reporting::Input,
     tally: &mut Tally,
     setup: &mut Setup,
     named: &mut Named,
