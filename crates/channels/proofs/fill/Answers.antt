@@ -4,7 +4,7 @@ use Rattle.channels.specs.Filled.{fills_none, fills_behind}
 use Rattle.channels.proofs.fill.Goals as goal
 
 pub returns-then-buf-kept : goal.returns-then-buf-kept
-returns-then-buf-kept c d = fills_none _ _ (search rules)
+returns-then-buf-kept g c = fills_none _ _ (search rules)
 
 pub returns-in-Ok : goal.returns-in-Ok
-returns-in-Ok c d = fills_behind _ _ _ _ (search rules) (search rules) (search rules)
+returns-in-Ok g c = fills_behind _ _ _ _ (search rules) (search rules) (search rules)
