@@ -4,26 +4,29 @@
 ghost use Rattle.std.specs.Prelude.{◌≡◌, true, ◌≤◌, length};
 ghost use Rattle.channels.specs.Filled.{Filled};
 
-use libc::{STDIN_FILENO, STDOUT_FILENO};
+use std::io::Read;
 
 // Reads behind the first `kept` bytes, which stay, and says how many bytes there are then: `kept` where the input has
 // ended, or cannot be read, or there is no room behind them.
-pub fn fill(buf: &mut [u8], kept: usize) -> usize
+pub fn fill(rt: &impl Input, buf: &mut [u8], kept: usize) -> usize
     ensures { Filled buf.old kept result buf.new }
 {
     if buf.len() <= kept {
         return kept;
     }
-    let got = libc::read(STDIN_FILENO, &mut buf[kept..]);
-    kept + io::count(got, &buf[kept..])
+    let mut input = rt.reader();
+    match input.read(&mut buf[kept..]) {
+        Ok(got) => kept + got,
+        Err(_) => kept,
+    }
 }
 
 // Writes the first n bytes; whether there are so many and they could be written.
-pub fn write(text: &[u8], n: usize) -> bool
+pub fn write(rt: &impl Print, text: &[u8], n: usize) -> bool
     ensures { result ≡ true → n ≤ length text.now }
 {
     if text.len() < n {
         return false;
     }
-    io::write_all(STDOUT_FILENO, &text[0..n])
+    rt.write_all(&text[0..n]).is_ok()
 }

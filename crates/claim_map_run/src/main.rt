@@ -1,6 +1,6 @@
 #![tactic(auto)]
 
 // The run of examples/claim, asked for the picture of its window.
-fn main() {
-    explanations::run();
+fn main(rt: HostRuntime) {
+    explanations::run(&rt);
 }

@@ -12,12 +12,11 @@ use mapping::Lists;
 use pages::{Named, Owners};
 use registers::Saved;
 use setup::Setup;
-use waiting::{Input, Output};
 
 // Writes so many answers, if it is loud: whether they could be written.
-fn pass_on(loud: bool, out: &[u8], n: usize) -> bool {
+fn pass_on(rt: &impl Print, loud: bool, out: &[u8], n: usize) -> bool {
     if loud {
-        return channels::write(out, n);
+        return channels::write(rt, out, n);
     }
     true
 }
@@ -25,9 +24,10 @@ fn pass_on(loud: bool, out: &[u8], n: usize) -> bool {
 // Reads until the input ends, or a write fails: whether the input ended. The answers are laid in `out`, and written if it is
 // loud. The count only has the loop end: no input needs so many reads.
 fn serve(
+    rt: &(impl Input + Print),
     loud: bool,
-    buf: &mut Input,
-    out: &mut Output,
+    buf: &mut waiting::Input,
+    out: &mut waiting::Output,
     setup: &mut Setup,
     named: &mut Named,
     book: &mut Ledger,
@@ -42,11 +42,11 @@ fn serve(
     let mut kept: usize = 0;
     let mut left = u64::MAX;
     while left > 0 {
-        let n = channels::fill(buf, kept);
+        let n = channels::fill(rt, buf, kept);
         let due = waiting::answer_read(
             buf, kept, n, out, setup, named, book, owners, saved, powers, turns, lists,
         );
-        if !pass_on(loud, out, due.put) {
+        if !pass_on(rt, loud, out, due.put) {
             return false;
         }
         if n == kept {
@@ -68,7 +68,7 @@ pub struct Served {
 }
 
 // Reads standard input, from a machine as it is before the first frame, and answers on standard output if it is loud.
-pub fn run(loud: bool) -> Served
+pub fn run(rt: &(impl Input + Print), loud: bool) -> Served
     ensures { result.whole ≡ true → Left result.setup result.lists }
 {
     let mut buf = io::large_buffer();
@@ -82,6 +82,7 @@ pub fn run(loud: bool) -> Served
     let mut turns = cores::fresh_turns();
     let mut lists = mapping::fresh();
     let whole = serve(
+        rt,
         loud,
         &mut buf,
         &mut out,

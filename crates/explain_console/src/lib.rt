@@ -6,7 +6,6 @@ ghost use Rattle.frames.specs.Frames.{Machine, on_machine};
 ghost use Rattle.explain_reads.specs.Reading.{Ran};
 
 use cores::{Powers, Turns};
-use explain_reads::{Input, Output};
 use ledger::Ledger;
 use mapping::Lists;
 use origins::{Lines, Origins};
@@ -18,9 +17,10 @@ use views::View;
 // Reads until the input ends, or a write fails: whether the input ended. The count only has the loop end: no input needs so
 // many reads.
 fn serve(
+    rt: &(impl Input + Print),
     view: View,
-    buf: &mut Input,
-    out: &mut Output,
+    buf: &mut explain_reads::Input,
+    out: &mut explain_reads::Output,
     origins: &mut Origins,
     count: &mut Lines,
     setup: &mut Setup,
@@ -37,12 +37,12 @@ fn serve(
     let mut kept: usize = 0;
     let mut left = u64::MAX;
     while left > 0 {
-        let n = channels::fill(buf, kept);
+        let n = channels::fill(rt, buf, kept);
         let due = explain_reads::take_read(
             view, buf, kept, n, out, origins, count, setup, named, book, owners, saved, powers,
             turns, lists,
         );
-        if !channels::write(out, due.put) {
+        if !channels::write(rt, out, due.put) {
             return false;
         }
         if n == kept {
@@ -57,6 +57,7 @@ fn serve(
 // Tells the lines of standard input on standard output, and says whether it was read to its end: then the tables are as the
 // input leaves them.
 pub fn explain(
+    rt: &(impl Input + Print),
     view: View,
     origins: &mut Origins,
     count: &mut Lines,
@@ -74,7 +75,7 @@ pub fn explain(
     let mut buf = [0u8; 1024];
     let mut out = [0u8; 3146752];
     serve(
-        view, &mut buf, &mut out, origins, count, setup, named, book, owners, saved, powers, turns,
-        lists,
+        rt, view, &mut buf, &mut out, origins, count, setup, named, book, owners, saved, powers,
+        turns, lists,
     )
 }

@@ -4,7 +4,8 @@
 ghost use Rattle.std.specs.Prelude.{◌≡◌, true};
 ghost use Rattle.explanations.specs.Ended.{Ended};
 
-use libc::STDERR_FILENO;
+use std::env::FillError;
+use std::rt::Env;
 use views::View;
 use wanted::Wanted;
 
@@ -12,7 +13,7 @@ use wanted::Wanted;
 const WORD: usize = 18;
 
 // Explains standard input on standard output, as the view has it: whether it was read to its end and all could be written.
-pub fn explain(view: View) -> bool
+pub fn explain(rt: &(impl Input + Print), view: View) -> bool
     ensures { result ≡ true → Ended view }
 {
     let mut setup = setup::fresh();
@@ -26,6 +27,7 @@ pub fn explain(view: View) -> bool
     let mut table = origins::fresh();
     let mut count = origins::fresh_lines();
     if explain_console::explain(
+        rt,
         view,
         &mut table,
         &mut count,
@@ -40,39 +42,43 @@ pub fn explain(view: View) -> bool
     ) {
         let mut out = [0u8; 65536];
         return standings::tell(
-            view, &mut out, &count, &setup, &owners, &table, &powers, &turns, &lists,
+            rt, view, &mut out, &count, &setup, &owners, &table, &powers, &turns, &lists,
         );
     }
     false
 }
 
-fn say_usage() {
-    io::write_all(
-        STDERR_FILENO,
-        b"usage: explain, explain map, or explain ADDRESS with up to 16 lower-case hexadecimal digits\n",
+fn say_usage(rt: &impl Eprint) {
+    let _ = rt.eprintln(
+        "usage: explain, explain map, or explain ADDRESS with up to 16 lower-case hexadecimal digits",
     );
 }
 
+// Whether the program was started with so many words behind its name, or more.
+fn has_word(rt: &impl Env, i: usize) -> bool {
+    let mut word = [0u8; 1];
+    !matches!(rt.arg(i, &mut word), Err(FillError::NotPresent))
+}
+
 // Explains standard input as the program's argument asks.
-pub fn run() {
-    let words = os::arg_count();
-    if words == 1 {
-        explain(View::All);
+pub fn run(rt: &(impl Input + Print + Eprint + Env)) {
+    if !has_word(rt, 1) {
+        explain(rt, View::All);
         return;
     }
     let mut word = [0u8; WORD];
-    let n = os::arg(1, &mut word);
-    if words != 2 {
-        say_usage();
+    let n = rt.arg(1, &mut word).unwrap_or(0);
+    if has_word(rt, 2) {
+        say_usage(rt);
         return;
     }
     match wanted::wanted_by(&word[..n]) {
         Wanted::Map => {
-            explain(View::Map);
+            explain(rt, View::Map);
         }
         Wanted::Page(address) => {
-            explain(View::Page(address));
+            explain(rt, View::Page(address));
         }
-        Wanted::Unknown => say_usage(),
+        Wanted::Unknown => say_usage(rt),
     }
 }

@@ -1,6 +1,6 @@
 #![tactic(auto)]
 
 // The frame program on a stored run: the smallest machine.
-fn main() {
-    console::run(true);
+fn main(rt: HostRuntime) {
+    console::run(&rt, true);
 }

@@ -9,7 +9,6 @@ ghost use Rattle.mend_reads.specs.Reading.{Ran, Mends};
 use cores::{Powers, Turns};
 use ledger::Ledger;
 use mapping::Lists;
-use mend_reads::Input;
 use pages::{Named, Owners};
 use registers::Saved;
 use setup::Setup;
@@ -17,7 +16,8 @@ use sheets::{Dropped, Ends, Kept};
 
 // Reads until the input ends: whether it did. The count only has the loop end: no input needs so many reads.
 fn serve(
-    buf: &mut Input,
+    rt: &impl Input,
+    buf: &mut mend_reads::Input,
     kept: &mut Kept,
     dropped: &mut Dropped,
     ends: &mut Ends,
@@ -35,7 +35,7 @@ fn serve(
     let mut waits: usize = 0;
     let mut left = u64::MAX;
     while left > 0 {
-        let n = channels::fill(buf, waits);
+        let n = channels::fill(rt, buf, waits);
         let more = mend_reads::take_read(
             buf, waits, n, kept, dropped, ends, setup, named, book, owners, saved, powers, turns,
             lists,
@@ -50,7 +50,7 @@ fn serve(
 }
 
 // Sets down the lines of standard input, and says whether it was read to its end, or to where it can be read no further.
-pub fn mend(kept: &mut Kept, dropped: &mut Dropped, ends: &mut Ends) -> bool
+pub fn mend(rt: &impl Input, kept: &mut Kept, dropped: &mut Dropped, ends: &mut Ends) -> bool
     ensures { result ≡ true → on_sheet kept dropped ends (λ (s s' : Sheet). Mends s s') }
 {
     let mut buf = io::large_buffer();
@@ -63,6 +63,7 @@ pub fn mend(kept: &mut Kept, dropped: &mut Dropped, ends: &mut Ends) -> bool
     let mut turns = cores::fresh_turns();
     let mut lists = mapping::fresh();
     serve(
+        rt,
         &mut buf,
         kept,
         dropped,
@@ -79,9 +80,9 @@ pub fn mend(kept: &mut Kept, dropped: &mut Dropped, ends: &mut Ends) -> bool
 }
 
 // Finishes the text of a sheet, and writes it: whether it could be written.
-pub fn tell(kept: &mut Kept, dropped: &Dropped, ends: &Ends) -> bool
+pub fn tell(rt: &impl Print, kept: &mut Kept, dropped: &Dropped, ends: &Ends) -> bool
     ensures { kept.new ≡ (finished kept.old dropped.now ends.now).1 }
 {
     let n = sheets::finish(kept, dropped, ends);
-    channels::write(kept, n)
+    channels::write(rt, kept, n)
 }

@@ -13,13 +13,13 @@ use mapping::Lists;
 use pages::{Named, Owners};
 use registers::Saved;
 use report_text::Output;
-use reporting::Input;
 use setup::Setup;
 use tallies::Tally;
 
 // Reads until the input ends: whether it did. The count only has the loop end: no input needs so many reads.
 fn serve(
-    buf: &mut Input,
+    rt: &impl Input,
+    buf: &mut reporting::Input,
     tally: &mut Tally,
     setup: &mut Setup,
     named: &mut Named,
@@ -35,7 +35,7 @@ fn serve(
     let mut kept: usize = 0;
     let mut left = u64::MAX;
     while left > 0 {
-        let n = channels::fill(buf, kept);
+        let n = channels::fill(rt, buf, kept);
         let waits = reporting::take_read(
             buf, kept, n, tally, setup, named, book, owners, saved, powers, turns, lists,
         );
@@ -49,7 +49,7 @@ fn serve(
 }
 
 // Notes the calls of standard input, and says whether it was read to its end.
-pub fn count(tally: &mut Tally) -> bool
+pub fn count(rt: &impl Input, tally: &mut Tally) -> bool
     ensures { result ≡ true → Noted tally.old tally.new }
 {
     let mut buf = io::large_buffer();
@@ -62,6 +62,7 @@ pub fn count(tally: &mut Tally) -> bool
     let mut turns = cores::fresh_turns();
     let mut lists = mapping::fresh();
     serve(
+        rt,
         &mut buf,
         tally,
         &mut setup,
@@ -76,9 +77,9 @@ pub fn count(tally: &mut Tally) -> bool
 }
 
 // Lays the report of a table over the space for it, and writes it: whether it could be written.
-pub fn tell(out: &mut Output, tally: &Tally) -> bool
+pub fn tell(rt: &impl Print, out: &mut Output, tally: &Tally) -> bool
     ensures { out.new ≡ (put out.old 0 (report_text tally.now)).1 }
 {
     let n = report_text::put_report(out, tally);
-    channels::write(out, n)
+    channels::write(rt, out, n)
 }

@@ -17,6 +17,7 @@ pub type Space = [u8; 65536];
 
 // Writes the end of an explanation: whether all of it could be written.
 pub fn tell(
+    rt: &impl Print,
     view: View,
     out: &mut Space,
     lines: &Lines,
@@ -34,7 +35,7 @@ pub fn tell(
         let chunk = endings::put_parts(
             out, part, lines, setup, owners, origins, powers, turns, lists,
         );
-        if !channels::write(out, chunk.put) {
+        if !channels::write(rt, out, chunk.put) {
             return false;
         }
         part = chunk.next;

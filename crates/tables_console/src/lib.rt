@@ -23,10 +23,10 @@ pub struct Made {
 }
 
 // Builds the tables of what the world has mapped after the run on standard input.
-pub fn make(numbers: &mut [u64], world: u64) -> Made
+pub fn make(rt: &(impl Input + Print), numbers: &mut [u64], world: u64) -> Made
     ensures { result.whole ≡ true → Makes world numbers.old result.built numbers.new }
 {
-    let run = console::run(false);
+    let run = console::run(rt, false);
     let lists = run.lists;
     let built = building::build(numbers, &lists, world);
     Made {
@@ -36,12 +36,12 @@ pub fn make(numbers: &mut [u64], world: u64) -> Made
 }
 
 // Writes the bytes of so many tables: whether they could be written.
-pub fn tell(numbers: &Numbers, bytes: &mut Bytes, count: u64) -> bool
+pub fn tell(rt: &impl Print, numbers: &Numbers, bytes: &mut Bytes, count: u64) -> bool
     ensures { bytes.new ≡ laid bytes.old 0 (spelled numbers.now 22528) }
 {
     spelling::spell(numbers, bytes);
     if MOST_TABLES < count {
         return false;
     }
-    channels::write(bytes, (TABLE_BYTES * count) as usize)
+    channels::write(rt, bytes, (TABLE_BYTES * count) as usize)
 }

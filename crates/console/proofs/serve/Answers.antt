@@ -1,0 +1,23 @@
+use Rattle.std.proofs.Common.{rules}
+use Rattle.std.proofs.Math.Path.{refl}
+use Rattle.rules.specs.Choice.{yes_or_no}
+use Rattle.inputs.specs.Monitor.{serving_none, serving_on, served_all}
+use Rattle.console.proofs.serve.Goals as goal
+
+pub loop-left-init : goal.loop-left-init
+loop-left-init g c = search serving_none
+
+pub returns-then-not-pass_on : goal.returns-then-not-pass_on
+returns-then-not-pass_on g c y = absurd (yes_or_no _ y refl)
+
+pub returns-then-n-kept : goal.returns-then-n-kept
+returns-then-n-kept g c y =
+    let v = c.loop-left.invariant in
+    let f = c.fill-n in
+    served_all _ _ _ _ v _ _ f.ensures.same _ _ _ _ _ c.answer_read-due.ensures (search rules) (search rules)
+
+pub loop-left-preserved : goal.loop-left-preserved
+loop-left-preserved g c = search (rules, serving_on)
+
+pub returns : goal.returns
+returns g c y = absurd (yes_or_no _ y refl)
