@@ -9,7 +9,7 @@ use Rattle.cores.specs.declared.Turn.{Turn}
 use Rattle.pages.specs.Window.{acceptable}
 use Rattle.mapping.specs.Lists.{WholeLists, held, holding_inserts, holding_other, released_takes, released_other}
 use Rattle.mapping.specs.Entries.{Inserted, Removed, without_removes}
-use Rattle.mapping.specs.Sound.{granted_room, granted_formed}
+use Rattle.mapping.proofs.Sound.{granted_room, granted_formed}
 use Rattle.ranges.specs.declared.Mapping.{Mapping}
 use Rattle.rules.specs.Sizes.{normal, most_cores}
 use Rattle.judgements.specs.Judge.{called_by}

@@ -12,7 +12,8 @@ use Rattle.rules.specs.Sizes.{most_cores}
 use Rattle.pages.specs.Window.{acceptable, accepted, run_is}
 use Rattle.pages.specs.Owners.{WholeOwners, given, given_whole, Packed, given_packed}
 use Rattle.mapping.specs.Lists.{WholeLists, holding_whole, released_whole, unmapped, unmapped_whole, held, held_unmapped, holding, holding_other, holding_inserts, released_other, released_takes}
-use Rattle.mapping.specs.Sound.{Sound, sound_none, granted_room, granted_formed, granted_keeps, without_keeps}
+use Rattle.mapping.specs.Sound.{Sound, sound_none}
+use Rattle.mapping.proofs.Sound.{granted_room, granted_formed, granted_keeps, without_keeps}
 use Rattle.ranges.specs.declared.Mapping.{Mapping}
 use Rattle.transfers.specs.Granted.{Movable, transfer_granted, moved_keeps}
 use Rattle.rules.specs.Sizes.{secure, normal, realm}

@@ -11,7 +11,7 @@ use Rattle.rules.specs.Sizes.{page_size}
 use Rattle.tools.specs.Search.{all}
 use Rattle.ranges.specs.declared.Mapping.{Mapping}
 use Rattle.mapping.specs.Mapping.{deciding, lead_of, touched, decided_by}
-use Rattle.mapping.specs.Deciding.{deciding_low}
+use Rattle.mapping.proofs.Deciding.{deciding_low}
 use Rattle.mapping.specs.declared.Decider.{Decider}
 use Rattle.mapping.specs.declared.Decider.TheVariants.{By, Nobody}
 use Rattle.mapping.specs.declared.Lead.{Lead}

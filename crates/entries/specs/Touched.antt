@@ -8,7 +8,8 @@ use Rattle.ranges.specs.Ranges.{within_low, within_high, within_if, meet_not, me
 use Rattle.ranges.specs.declared.Mapping.{Mapping}
 use Rattle.mapping.specs.Mapping.{exact, holds, any_of, smallest_of, has_exactly, deciding, leading, lead_of, touched, touches}
 use Rattle.mapping.specs.Entries.{Among, any_less, any_among, among_any}
-use Rattle.mapping.specs.Deciding.{Sought, missing, smallest, sought, deciding_none}
+use Rattle.mapping.specs.Deciding.{Sought, missing, smallest}
+use Rattle.mapping.proofs.Deciding.{sought, deciding_none}
 use Rattle.descriptors.specs.Numbers.{span, span_some}
 use Rattle.stretches.specs.Steady.{steady, steady_decides}
 use Rattle.entries.specs.Entries.{leaf, whole, deeper, entry}

@@ -15,7 +15,8 @@ use Rattle.mapping.specs.Lists.{held_unmapped}
 use Rattle.mapping.specs.Mapping.{smallest_of, deciding, leading, lead_of}
 use Rattle.mapping.specs.Entries.{Among, beside_two}
 use Rattle.mapping.specs.Sound.{Sound, sound_none}
-use Rattle.mapping.specs.Once.{Reaches, LedBy, covered_few, one_address, one_place, led, leads}
+use Rattle.mapping.specs.Once.{Reaches, LedBy, covered_few, one_address, one_place}
+use Rattle.mapping.proofs.Once.{led, leads}
 use Rattle.mapping.specs.declared.Lead.TheVariants.{To, Nowhere}
 use Rattle.judgements.specs.Grounds.{Calls}
 use Rattle.calls.specs.Right.{Right}

@@ -9,7 +9,7 @@ use Rattle.pages.specs.Owners.{owner, owned_if}
 use Rattle.pages.specs.declared.Window.{Window}
 use Rattle.pages.specs.declared.Place.{Place}
 use Rattle.pages.specs.declared.Place.TheVariants.{Page, Outside}
-use Rattle.mapping.specs.Sound.{unmet_run, unmet_if}
+use Rattle.mapping.proofs.Sound.{unmet_run, unmet_if}
 use Rattle.ranges.specs.declared.Mapping.{Mapping}
 use Rattle.transfers.specs.Granted.{transfer_granted, movable_granted, moved_from}
 use Rattle.transfers.specs.declared.Verdict.TheVariants.{Granted}

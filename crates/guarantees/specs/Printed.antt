@@ -14,7 +14,7 @@ use Rattle.cores.specs.Cores.{power, on_count_le, on_count, first_power_zero, fi
 use Rattle.pages.specs.declared.Window.{Window}
 use Rattle.mapping.specs.Mapping.{deciding, leading, lead_of}
 use Rattle.mapping.specs.Entries.{Every, every_among}
-use Rattle.mapping.specs.Deciding.{deciding_is}
+use Rattle.mapping.proofs.Deciding.{deciding_is}
 use Rattle.mapping.specs.Sound.{Formed}
 use Rattle.mapping.specs.declared.Lead.{Lead}
 use Rattle.mapping.specs.declared.Lead.TheVariants as Lead

@@ -18,8 +18,9 @@ use Rattle.cores.specs.Cores.{power}
 use Rattle.ranges.specs.declared.Mapping.{Mapping}
 use Rattle.mapping.specs.Lists.{held}
 use Rattle.mapping.specs.Entries.{Every, every_of, every_among}
-use Rattle.mapping.specs.Sound.{Formed, granted_formed}
-use Rattle.mapping.specs.Granted.{granted_mappable, mappable_granted, overlap_refused}
+use Rattle.mapping.specs.Sound.{Formed}
+use Rattle.mapping.proofs.Sound.{granted_formed}
+use Rattle.mapping.proofs.Granted.{granted_mappable, mappable_granted, overlap_refused}
 use Rattle.rules.specs.Sizes.{secure, normal, most_cores}
 use Rattle.judgements.specs.Judge.{called_by, args_of, affirmed, found, wanted}
 use Rattle.judgements.specs.Asked.{Finishes, by_secure, by_realm, called_for, leads_asked, judged_reserved}

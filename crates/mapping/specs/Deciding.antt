@@ -1,16 +1,10 @@
 -- Which mapping of a list decides an address: one of the list that holds it, and no larger than any other that does.
-use Rattle.std.specs.Prelude.{◌≡◌, ℕ, ◌≤◌, Bool, true, false, ◌⊎◌, List, [], ◌∷◌, ◌++◌, nat_le}
-use Rattle.std.proofs.Math.Path.{refl, ap}
-use Rattle.std.proofs.Common.{sym, ⊎_elim}
-use Rattle.std.proofs.Math.Logic.{inl, inr}
+use Rattle.std.specs.Prelude.{◌≡◌, ◌≤◌, Bool, true, false, List, [], ◌∷◌, ◌++◌}
+use Rattle.std.proofs.Math.Path.{refl}
 use Rattle.std.proofs.Math.Option.{Option, none, some}
-use native.Mathlib.Omega.{arith}
-use borrow.Author.Tests.{leb-true, leb-false}
-use Rattle.rules.specs.Choice.{pick, pick_yes, pick_no, by, chosen, yes_or_no, neither, not_first, not_second}
-use Rattle.ranges.specs.Ranges.{within, within_low}
-use Rattle.ranges.specs.Nested.{Inner, windowed, holding_meets}
-use Rattle.mapping.specs.Mapping.{holds, clashes, any_of, lesser, smallest_of, deciding}
-use Rattle.mapping.specs.Entries.{Every, Apart, Among, Inserted, every_among, any_among, apart_two, insert_every, insert_among}
+use Rattle.rules.specs.Choice.{pick_no, yes_or_no, not_first, not_second}
+use Rattle.mapping.specs.Mapping.{any_of, smallest_of}
+use Rattle.mapping.specs.Entries.{Every, Among}
 use Rattle.ranges.specs.declared.Mapping.{Mapping}
 
 -- an entry that is the smallest of those that pass
@@ -24,44 +18,15 @@ pub data Sought (p : Mapping → Bool) (l : List Mapping) : Option Mapping → T
   missing : any_of p l ≡ false → Sought p l none
   smallest : (m : Mapping) → Smallest p l m → Sought p l (some m)
 
-every_wider : (P Q : Mapping → Type 0) (l : List Mapping) → ((m : Mapping) → P m → Q m) → Every P l → Every Q l
+pub every_wider : (P Q : Mapping → Type 0) (l : List Mapping) → ((m : Mapping) → P m → Q m) → Every P l → Every Q l
 unfolding Every
 every_wider P Q [] f e = tt
 every_wider P Q (m ∷ l) f e = (f m e.0, every_wider P Q l f e.1)
 
-every_silent : (p : Mapping → Bool) (Q : Mapping → Type 0) (l : List Mapping) → any_of p l ≡ false → Every (λ (n : Mapping). p n ≡ true → Q n) l
+pub every_silent : (p : Mapping → Bool) (Q : Mapping → Type 0) (l : List Mapping) → any_of p l ≡ false → Every (λ (n : Mapping). p n ≡ true → Q n) l
 unfolding Every any_of
 every_silent p Q [] h = tt
 every_silent p Q (m ∷ l) h = (λ y. absurd (yes_or_no _ y (not_first (p m) _ h)), every_silent p Q l (not_second (p m) _ h))
-
-module _ (p : Mapping → Bool) (m : Mapping) (l : List Mapping) where
-  sought_here : p m ≡ true → (d : Option Mapping) → Sought p l d → Sought p (m ∷ l) (some (lesser m d))
-  unfolding lesser Every Among
-  sought_here h none (missing a) = smallest m (record { among = inl refl; passes = h; least = (λ _. omega arith, every_silent p (λ (n : Mapping). m.size ≤ n.size) l a) })
-  sought_here h (some n) (smallest _ s) =
-      by (λ (b : Bool). nat_le m.size n.size ≡ b → Sought p (m ∷ l) (some (pick b m n))) (nat_le m.size n.size)
-      (λ _ e. let k = leb-true m.size n.size e in
-      rw (pick_yes true m n) (smallest m (record {
-        among = inl refl;
-        passes = h;
-        least = (λ _. omega arith, every_wider _ _ l (λ q f y. let z = f y in omega arith) s.least);
-      })))
-      (λ _ e. let k = leb-false m.size n.size e in
-      rw (pick_no false m n) (smallest n (record { among = inr s.among; passes = s.passes; least = (λ _. omega arith, s.least) })))
-      refl
-
-  sought_there : p m ≡ false → (d : Option Mapping) → Sought p l d → Sought p (m ∷ l) d
-  unfolding Every Among any_of
-  sought_there h none (missing a) = missing (neither (p m) _ h a)
-  sought_there h (some n) (smallest _ s) = smallest n (record { among = inr s.among; passes = s.passes; least = (λ y. absurd (yes_or_no _ y h), s.least) })
-
-pub sought : (p : Mapping → Bool) (l : List Mapping) → Sought p l (smallest_of p l)
-unfolding smallest_of any_of
-sought p [] = missing refl
-sought p (m ∷ l) =
-    chosen (Sought p (m ∷ l)) (p m) (some (lesser m (smallest_of p l))) (smallest_of p l)
-    (λ y. sought_here p m l y (smallest_of p l) (sought p l))
-    (λ k. sought_there p m l k (smallest_of p l) (sought p l))
 
 -- two tests that agree on each entry
 pub smallest_alike : (p q : Mapping → Bool) (l : List Mapping) → Every (λ (m : Mapping). p m ≡ q m) l → smallest_of p l ≡ smallest_of q l
@@ -69,71 +34,8 @@ unfolding smallest_of Every
 smallest_alike p q [] e = refl
 smallest_alike p q (m ∷ l) e = rw (e.0, smallest_alike p q l e.1)
 
--- ---- the mapping that decides an address
-module _ (l : List Mapping) (x : ℕ) where
-  module _ (m : Mapping) (e : deciding l x ≡ some m) where
-    pub deciding_is : Smallest (holds x) l m
-    unfolding deciding
-    deciding_is = of (some m) (rw e at (sought (holds x) l)) refl
-      where
-        of : (d : Option Mapping) → Sought (holds x) l d → d ≡ some m → Smallest (holds x) l m
-        of none (missing a) e = let y : ◌≡◌ {A = ℕ} 0 1 = cc in absurd (omega arith)
-        of (some n) (smallest _ s) e = let z : n ≡ m = cc in (rw z at s)
-
-    pub deciding_holds : within x m.virt m.size ≡ true
-    unfolding holds
-    deciding_holds = deciding_is.passes
-
-    pub deciding_low : m.virt ≤ x
-    deciding_low = within_low x m.virt m.size deciding_holds
-
-  -- where none decides it, none holds it
-  pub deciding_none : deciding l x ≡ none → any_of (holds x) l ≡ false
-  unfolding deciding
-  deciding_none e = of none (rw e at (sought (holds x) l)) refl
-    where
-      of : (d : Option Mapping) → Sought (holds x) l d → d ≡ none → any_of (holds x) l ≡ false
-      of none (missing a) e = a
-      of (some n) (smallest _ s) e = let y : ◌≡◌ {A = ℕ} 0 1 = cc in absurd (omega arith)
-
-  module _ (a : Apart l) (m : Mapping) (s : Smallest (holds x) l m) where
-    -- in a list without clashes the smallest is one alone
-    pub smallest_one : (n : Mapping) → Smallest (holds x) l n → m ≡ n
-    smallest_one n t =
-        ⊎_elim (λ (z : m ≡ n). z)
-        (λ (z : clashes m n ≡ false).
-        let f = every_among _ l n s.least t.among t.passes in
-        let g = every_among _ l m t.least s.among s.passes in
-        ⊎_elim (λ (y : Inner m n). let k = y.smaller in absurd (omega arith)) (λ (y : Inner n m). let k = y.smaller in absurd (omega arith))
-        (windowed m n z (holding_meets m n x s.passes t.passes)))
-        (apart_two l m n a s.among t.among)
-
-    -- and so it decides
-    pub smallest_decides : deciding l x ≡ some m
-    unfolding deciding
-    smallest_decides = of (smallest_of (holds x) l) (sought (holds x) l)
-      where
-        of : (d : Option Mapping) → Sought (holds x) l d → d ≡ some m
-        of none (missing h) = absurd (yes_or_no _ (any_among (holds x) l m s.among s.passes) h)
-        of (some n) (smallest _ t) = ap some (sym (smallest_one n t))
-
 -- ---- with one entry more
-smallest_put : (p : Mapping → Bool) (a : List Mapping) (m : Mapping) (b : List Mapping) → p m ≡ false → smallest_of p (a ++ m ∷ b) ≡ smallest_of p (a ++ b)
+pub smallest_put : (p : Mapping → Bool) (a : List Mapping) (m : Mapping) (b : List Mapping) → p m ≡ false → smallest_of p (a ++ m ∷ b) ≡ smallest_of p (a ++ b)
 unfolding smallest_of
 smallest_put p [] m b e = pick_no (p m) _ _ e
 smallest_put p (x ∷ a) m b e = rw (smallest_put p a m b e)
-
-module _ {m : Mapping} {l l' : List Mapping} (i : Inserted m l l') (x : ℕ) where
-  -- it decides the addresses that it holds and no smaller one does
-  pub insert_decides : Apart l' → holds x m ≡ true → Every (λ (n : Mapping). holds x n ≡ true → m.size ≤ n.size) l → deciding l' x ≡ some m
-  insert_decides a h e =
-      smallest_decides l' x a m (record {
-        among = insert_among i;
-        passes = h;
-        least = insert_every (λ (n : Mapping). holds x n ≡ true → m.size ≤ n.size) i (λ _. omega arith) e;
-      })
-
-  -- the others are decided as before
-  pub insert_leaves : holds x m ≡ false → deciding l' x ≡ deciding l x
-  unfolding deciding
-  insert_leaves h = rw (i.after, i.before) (smallest_put (holds x) i.front m i.back h)

@@ -1,30 +1,26 @@
 -- The mappings that each world holds, how one is put among them and how one is taken out. Shut: the laws say the rest.
-use Rattle.std.specs.Prelude.{◌≡◌, ℕ, ◌+◌, ◌-◌, ◌*◌, ◌%◌, ◌^◌, ◌<◌, ◌≤◌, Bool, true, false, ltb, List, [], length, ◌==◌, ◌≢◌, nat_lt}
+use Rattle.std.specs.Prelude.{◌≡◌, ℕ, ◌-◌, ◌*◌, ◌<◌, ◌≤◌, Bool, true, false, ltb, List, [], length, ◌==◌, ◌≢◌, nat_lt}
 use Rattle.std.proofs.Math.Path.{refl, sym}
 use Rattle.std.proofs.Common.{ap, ◌∙◌, arith}
 use Rattle.std.proofs.Math.Option.{Option, none, some}
-use borrow.Author.Tests.{lt-ltb, le-ltb, le-leb, lt-leb, ne_eqb, eq-eqb, eqb-true, eqb-false, ltb-true, ltb-false}
+use borrow.Author.Tests.{lt-ltb, le-ltb, le-leb, lt-leb, ne_eqb, eqb-true, eqb-false, ltb-true, ltb-false}
 use Rattle.rules.specs.Choice.{pick, picked, passed, either, chosen, chosen_two, yes_or_no}
 use Rattle.rules.specs.Sizes.{worlds, page_size, most_mappings}
-use Rattle.mapping.specs.Mapping.{on_pages, any_of, clash, is_full, has_exactly, meets_run, touched, deciding, decided_by, leading, lead_of, without}
+use Rattle.mapping.specs.Mapping.{on_pages, any_of, clash, is_full, has_exactly, meets_run, touched, decided_by, without}
 use Rattle.mapping.specs.Entries.{Inserted, without_missing}
-use Rattle.mapping.specs.Deciding.{deciding_low}
 use Rattle.ranges.specs.Question.{asks_free, asks, answers}
 use Rattle.tools.specs.Search.{first_is}
-use Rattle.mapping.specs.Places.{gathered, lowest, lowest_any, lowest_none, gathered_clash, held_at, here_none, here_some, smallest_gathered, room_left, none_left, filled_in, removed, gathered_same, gathered_none, gathered_some}
+use Rattle.mapping.specs.Places.{gathered, lowest, lowest_any, lowest_none, gathered_clash, room_left, none_left, filled_in, removed, gathered_same, gathered_none, gathered_some}
 pub use Rattle.places.specs.Table.{unmapped, WholeLists, unmapped_whole, place}
 use Rattle.places.specs.Found.{found, latest, latest_most, latest_answers, latest_fails, latest_same, spot, spot_reach, spot_free, spot_full, spot_same, clashed}
-use Rattle.places.specs.Decider.{decider}
 use Rattle.places.specs.Table.{blank, reach, reach_no_world, place_out, stored, stored_whole, stored_at, stored_same, stored_within, stored_elsewhere, stored_no_world, stored_no_place, freed, freed_whole, freed_same, freed_within, freed_elsewhere, unmapped_blank}
 use Rattle.ranges.specs.declared.Mapping.{Mapping}
-use Rattle.mapping.specs.declared.Decider.{Decider}
 use Rattle.mapping.specs.declared.Decider.TheVariants.{By, Nobody}
-use Rattle.mapping.specs.declared.Lead.TheVariants.{To, Nowhere}
 use Rattle.ranges.specs.declared.Question.{Question}
 use Rattle.ranges.specs.declared.Question.TheVariants.{Exact, OnPages, OnRange, Touches}
 
 -- the mappings that the world holds, in the order of their places
-pub held : List ℕ → ℕ → List Mapping
+unfoldable pub held : List ℕ → ℕ → List Mapping
 held t w = gathered (place t w) 0 most_mappings
 
 -- the mapping put behind the world's last, or at its lowest free place where the last place is held; nothing changes where none is free
@@ -106,50 +102,18 @@ module _ (t : List ℕ) (w : ℕ) (m : Mapping) (r : Bool) (e : r ≡ clashed t 
   pub clash_no : r ≡ false → clash (held t w) m ≡ false
   clash_no h = sym clash_is ∙ h
 
--- ---- the smallest that the places have is the one that decides
-decider_is : (t : List ℕ) (w x : ℕ) → held_at (decider t w x) ≡ deciding (held t w) x
-unfolding decider held deciding
-decider_is t w x = smallest_gathered (place t w) x 0 most_mappings
-
-module _ (t : List ℕ) (w x : ℕ) (m : Mapping) (e : m ≡ decider t w x) where
-  pub decides_nobody : m.size ≡ 0 → Nobody ≡ decided_by (deciding (held t w) x)
-  unfolding decided_by
-  decides_nobody h = let z : deciding (held t w) x ≡ none = sym (rw e (decider_is t w x)) ∙ here_none m (eq-eqb _ _ h) in rw z
-
-  pub decides_by : (m.size ≢ 0) → By m ≡ decided_by (deciding (held t w) x)
-  unfolding decided_by
-  decides_by h = let z : deciding (held t w) x ≡ some m = sym (rw e (decider_is t w x)) ∙ here_some m (ne_eqb _ _ h) in rw z
-
 -- ---- where an address leads, by who decides it
-decided_some : (o : Option Mapping) (m : Mapping) → By m ≡ decided_by o → o ≡ some m
+pub decided_some : (o : Option Mapping) (m : Mapping) → By m ≡ decided_by o → o ≡ some m
 unfolding decided_by
 decided_some none m e = let y : ◌≡◌ {A = ℕ} 0 1 = cc in absurd (omega arith)
 decided_some (some n) m e = let z : m ≡ n = cc in ap some (sym z)
 
-decided_none : (o : Option Mapping) → Nobody ≡ decided_by o → o ≡ none
+pub decided_none : (o : Option Mapping) → Nobody ≡ decided_by o → o ≡ none
 unfolding decided_by
 decided_none none e = refl
 decided_none (some n) e = let y : ◌≡◌ {A = ℕ} 0 1 = cc in absurd (omega arith)
 
-module _ (l : List Mapping) (x : ℕ) (d : Decider) (e : d ≡ decided_by (deciding l x)) where
-  pub leads_nowhere : d ≡ Nobody → Nowhere ≡ lead_of l x
-  unfolding lead_of leading
-  leads_nowhere h = let z = decided_none (deciding l x) (sym h ∙ e) in rw z
-
-  module _ (m : Mapping) (h : d ≡ By m) where
-    leads_by : deciding l x ≡ some m
-    leads_by = decided_some (deciding l x) m (sym h ∙ e)
-
-    pub leads_from : m.virt ≤ x
-    leads_from = deciding_low l x m leads_by
-
-    pub leads_to : (p : ℕ) → p ≡ (m.phys + (x - m.virt)) % 2 ^ 64 → To p m.attr ≡ lead_of l x
-    unfolding lead_of leading
-    leads_to p g = rw (leads_by, g)
-
 pub ruleset verdict_laws = (clash_yes, clash_no, full_yes, full_no)
-
-pub ruleset list_laws = (has_is, meets_is, meets_bytes, touched_is, decides_nobody, decides_by, leads_nowhere, leads_from, leads_to, holding_is, released_not, released_is)
 
 -- ---- for the crates above
 

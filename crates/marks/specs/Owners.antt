@@ -1,8 +1,8 @@
 -- The mark of each owner, and the owner that a mark stands for.
-use Rattle.std.specs.Prelude.{◌≡◌, refl, [], ◌∷◌, ℕ, ◌≤◌, ◌<◌, leb, eqb, get_or}
-use Rattle.std.proofs.Common.{◌∙◌, arith, leb-true, eqb-true, ne_eqb}
+use Rattle.std.specs.Prelude.{◌≡◌, refl, [], ◌∷◌, ℕ, ◌≤◌, leb, eqb, get_or}
+use Rattle.std.proofs.Common.{arith, leb-true, eqb-true}
 use Rattle.rules.specs.Sizes.{root, secure, normal, realm, last_world, worlds}
-use Rattle.rules.specs.Choice.{pick, pick_no}
+use Rattle.rules.specs.Choice.{pick}
 use Rattle.tools.specs.Search.{all, all_at}
 
 -- the mark of the places that are no page of the window
@@ -43,16 +43,3 @@ owner_world m h l = leb-true _ _ (all_at (λ (m : ℕ). leb (owner_of m) last_wo
 pub marks_listed : (w : ℕ) → w ≤ last_world → mark_of w ≡ get_or (10 ∷ 8 ∷ 9 ∷ 11 ∷ []) w 0
 unfolding all mark_of pick
 marks_listed w h = eqb-true _ _ (all_at (λ (w : ℕ). eqb (mark_of w) (get_or (10 ∷ 8 ∷ 9 ∷ 11 ∷ []) w 0)) 0 4 w refl (omega arith) (omega arith))
-
--- every other mark is nobody's
-module _ (m : ℕ) where
-  not_four : (m ≡ 8 → ⊥) → (m ≡ 9 → ⊥) → (m ≡ 10 → ⊥) → (m ≡ 11 → ⊥) → owner_of m ≡ worlds
-  unfolding owner_of
-  not_four a b c d =
-      pick_no _ _ _ (ne_eqb m 8 a) ∙ pick_no _ _ _ (ne_eqb m 9 b) ∙ pick_no _ _ _ (ne_eqb m 10 c) ∙ pick_no _ _ _ (ne_eqb m 11 d)
-
-  pub owner_below : m < 8 → owner_of m ≡ worlds
-  owner_below h = not_four (λ e. omega arith) (λ e. omega arith) (λ e. omega arith) (λ e. omega arith)
-
-  pub owner_above : 11 < m → owner_of m ≡ worlds
-  owner_above h = not_four (λ e. omega arith) (λ e. omega arith) (λ e. omega arith) (λ e. omega arith)

@@ -6,7 +6,8 @@ use borrow.Author.Tests.{ltb-true, ltb-false, lt-ltb, le-ltb}
 use Rattle.rules.specs.Sizes.{last_world}
 use Rattle.rules.specs.Choice.{pick_yes, pick_no, either}
 use Rattle.tools.specs.Search.{any_not, any_if_not}
-use Rattle.marks.specs.Owners.{owner_of, owner_world, owner_below, owner_above}
+use Rattle.marks.specs.Owners.{owner_of, owner_world}
+use Rattle.marks.proofs.Owners.{owner_below, owner_above}
 use Rattle.conversions.specs.Conversions.{mark_in, numbers_for, cramped, stray_byte, stray_mark, stray_bytes, stray_marks}
 use Rattle.converting.specs.Outcomes.{roomy, some_pages, most_pages_lem, bytes_fit, numbers_fit}
 use Rattle.round_trips.specs.Statements.{Room, Owned, Marked}

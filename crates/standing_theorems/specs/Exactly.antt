@@ -18,8 +18,9 @@ use Rattle.ranges.specs.declared.Mapping.{Mapping}
 use Rattle.mapping.specs.Mapping.{exact, has_exactly, lead_of}
 use Rattle.mapping.specs.Lists.{held}
 use Rattle.mapping.specs.Entries.{Among, every_among, among_any}
-use Rattle.mapping.specs.Sound.{page_start, Formed, Sound, granted_formed}
-use Rattle.mapping.specs.Once.{leads}
+use Rattle.mapping.specs.Sound.{page_start, Formed, Sound}
+use Rattle.mapping.proofs.Sound.{granted_formed}
+use Rattle.mapping.proofs.Once.{leads}
 use Rattle.mapping.specs.declared.Lead.{Lead}
 use Rattle.mapping.specs.declared.Lead.TheVariants.{To}
 use Rattle.judgements.specs.Names.{granule_to_realm, granule_to_normal, take_pages, give_pages, map_pages, unmap_pages}

@@ -15,7 +15,8 @@ use Rattle.pages.specs.declared.Window.{Window}
 use Rattle.ranges.specs.declared.Mapping.{Mapping}
 use Rattle.mapping.specs.Mapping.{holds, deciding}
 use Rattle.mapping.specs.Entries.{Every, every_of, every_among}
-use Rattle.mapping.specs.Deciding.{smallest_alike, deciding_is, deciding_low}
+use Rattle.mapping.specs.Deciding.{smallest_alike}
+use Rattle.mapping.proofs.Deciding.{deciding_is, deciding_low}
 use Rattle.mapping.specs.Sound.{Formed}
 use Rattle.descriptors.specs.Numbers.{span}
 use Rattle.entries.specs.Touched.{holds_low, holds_high, holds_if}

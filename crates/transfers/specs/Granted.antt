@@ -17,7 +17,8 @@ use Rattle.pages.specs.declared.Window.{Window}
 use Rattle.pages.specs.declared.Place.{Place}
 use Rattle.pages.specs.declared.Place.TheVariants.{Page, Outside}
 use Rattle.mapping.specs.Mapping.{meets_run}
-use Rattle.mapping.specs.Sound.{Sound, unmet_run, given_keeps}
+use Rattle.mapping.specs.Sound.{Sound}
+use Rattle.mapping.proofs.Sound.{unmet_run, given_keeps}
 use Rattle.ranges.specs.declared.Mapping.{Mapping}
 use Rattle.transfers.specs.Transfer.{move_tests, transfer_verdict}
 use Rattle.transfers.specs.declared.Verdict.{Verdict}

@@ -8,7 +8,7 @@ use Rattle.rules.specs.Choice.{pick_no}
 use Rattle.tools.specs.Search.{first, first_stops, first_ends}
 use Rattle.ranges.specs.declared.Mapping.{Mapping}
 use Rattle.mapping.specs.Mapping.{deciding, leading, lead_of}
-use Rattle.mapping.specs.Deciding.{deciding_low}
+use Rattle.mapping.proofs.Deciding.{deciding_low}
 use Rattle.mapping.specs.declared.Lead.{Lead}
 use Rattle.mapping.specs.declared.Lead.TheVariants.{To, Nowhere}
 use Rattle.descriptors.specs.Numbers.{span, base_of, span_some, span_most}

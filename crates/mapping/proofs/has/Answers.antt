@@ -1,5 +1,5 @@
 -- `has` meets its promise, since a place is found exactly where the list has such a mapping.
-use Rattle.mapping.specs.Lists.{list_laws}
+use Rattle.mapping.proofs.Lists.{list_laws}
 use Rattle.std.proofs.Common.{rules}
 use Rattle.mapping.proofs.has.Goals as goal
 

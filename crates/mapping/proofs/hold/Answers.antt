@@ -1,5 +1,5 @@
 -- `hold` meets its promise, since what is put at the lowest free place is held.
-use Rattle.mapping.specs.Lists.{list_laws}
+use Rattle.mapping.proofs.Lists.{list_laws}
 use Rattle.std.proofs.Common.{rules}
 use Rattle.mapping.proofs.hold.Goals as goal
 

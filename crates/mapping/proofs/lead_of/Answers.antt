@@ -1,5 +1,5 @@
 -- `lead_of` meets its promise, since it leads by the mapping that decides the address, which starts at or below it.
-use Rattle.mapping.specs.Lists.{list_laws}
+use Rattle.mapping.proofs.Lists.{list_laws}
 use Rattle.std.proofs.Common.{rules}
 use Rattle.mapping.proofs.lead_of.Goals as goal
 

@@ -1,5 +1,5 @@
 -- `meets_run` meets its promise, since a place is found exactly where a mapping of the list meets the run.
-use Rattle.mapping.specs.Lists.{list_laws}
+use Rattle.mapping.proofs.Lists.{list_laws}
 use Rattle.std.proofs.Common.{rules}
 use Rattle.mapping.proofs.meets_run.Goals as goal
 

@@ -1,5 +1,5 @@
 -- `release` meets its promise, since what is made free is the last place of exactly this start and size.
-use Rattle.mapping.specs.Lists.{list_laws}
+use Rattle.mapping.proofs.Lists.{list_laws}
 use Rattle.std.proofs.Common.{rules}
 use Rattle.mapping.proofs.release.Goals as goal
 

@@ -1,5 +1,5 @@
 -- `who_decides` meets its promise, since the smallest of the places is the one that decides among the list's, or there is none.
-use Rattle.mapping.specs.Lists.{list_laws}
+use Rattle.mapping.proofs.Lists.{list_laws}
 use Rattle.std.proofs.Common.{rules}
 use Rattle.mapping.proofs.who_decides.Goals as goal
 
