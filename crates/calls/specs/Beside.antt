@@ -10,7 +10,8 @@ use Rattle.cores.specs.Cores.{WholeTurns, turn}
 use Rattle.mapping.specs.Lists.{WholeLists, held, holding, released, SamePlaces, held_same, holding_places, released_places, holding_both, released_both}
 use Rattle.ranges.specs.declared.Mapping.{Mapping}
 use Rattle.judgements.specs.Judge.{handler_sight, sighted, judged, called_by, args_of}
-use Rattle.judgements.specs.Alike.{OnList, GivesPages, Level, judged_same}
+use Rattle.judgements.specs.Alike.{OnList, GivesPages, Level}
+use Rattle.judgements.proofs.Alike.{judged_same}
 use Rattle.judgements.specs.Quiet.{OwnList}
 use Rattle.judgements.specs.Asked.{key}
 use Rattle.judgements.specs.declared.Deed.{Deed}

@@ -11,11 +11,13 @@ use Rattle.cores.specs.declared.Turn.{Turn}
 use Rattle.rules.specs.Sizes.{last_world, most_cores}
 use Rattle.pages.specs.Owners.{WholeOwners, owner, given_outside}
 use Rattle.ranges.specs.declared.Mapping.{Mapping}
-use Rattle.transfers.specs.Granted.{Movable, transfer_granted, moved_from, moved_to}
+use Rattle.transfers.specs.Granted.{Movable}
+use Rattle.transfers.proofs.Granted.{transfer_granted, moved_from, moved_to}
 use Rattle.mapping.specs.Lists.{WholeLists}
 use Rattle.rules.specs.Sizes.{secure, normal, realm}
 use Rattle.judgements.specs.Judge.{HandlerSight, called_by}
-use Rattle.judgements.specs.Grounds.{Takes, Between, Moves, Grounds, grounded}
+use Rattle.judgements.specs.Grounds.{Takes, Between, Moves}
+use Rattle.judgements.proofs.Grounds.{Grounds, grounded}
 use Rattle.judgements.specs.Grounds.Between.{to_caller, to_normal}
 use Rattle.judgements.specs.declared.Answer.{Answer}
 use Rattle.judgements.specs.declared.Answer.TheVariants.{No}

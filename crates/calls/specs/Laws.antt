@@ -17,7 +17,7 @@ use Rattle.rules.specs.Tests.{stops}
 use Rattle.rules.specs.declared.Reason.TheVariants.{Unserved}
 use Rattle.identifiers.specs.declared.Parts.{Parts}
 use Rattle.judgements.specs.Judge.{Sight, denied, one_of, callers, handler_sight, sighted, judged_by, judged}
-use Rattle.judgements.specs.Asked.{called_for}
+use Rattle.judgements.proofs.Asked.{called_for}
 use Rattle.judgements.specs.declared.Answer.{Answer}
 use Rattle.judgements.specs.declared.Answer.TheVariants.{Silent, No}
 use Rattle.judgements.specs.declared.Deed.{Deed}

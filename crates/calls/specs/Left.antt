@@ -13,7 +13,7 @@ use Rattle.mapping.proofs.Sound.{granted_room, granted_formed}
 use Rattle.ranges.specs.declared.Mapping.{Mapping}
 use Rattle.rules.specs.Sizes.{normal, most_cores}
 use Rattle.judgements.specs.Judge.{called_by}
-use Rattle.judgements.specs.Grounds.{grounded}
+use Rattle.judgements.proofs.Grounds.{grounded}
 use Rattle.mapping.specs.declared.Lead.{Lead}
 use Rattle.mapping.specs.declared.Lead.TheVariants.{To}
 use Rattle.judgements.specs.Decided.{Decided, done, refused, TellsLead, leads, leads_not}

@@ -15,9 +15,11 @@ use Rattle.mapping.specs.Lists.{WholeLists, holding_whole, released_whole, unmap
 use Rattle.mapping.specs.Sound.{Sound, sound_none}
 use Rattle.mapping.proofs.Sound.{granted_room, granted_formed, granted_keeps, without_keeps}
 use Rattle.ranges.specs.declared.Mapping.{Mapping}
-use Rattle.transfers.specs.Granted.{Movable, transfer_granted, moved_keeps}
+use Rattle.transfers.specs.Granted.{Movable, moved_keeps}
+use Rattle.transfers.proofs.Granted.{transfer_granted}
 use Rattle.rules.specs.Sizes.{secure, normal, realm}
-use Rattle.judgements.specs.Grounds.{Takes, Calls, Between, Grounds, grounded}
+use Rattle.judgements.specs.Grounds.{Takes, Calls, Between}
+use Rattle.judgements.proofs.Grounds.{Grounds, grounded}
 use Rattle.judgements.specs.Grounds.Between.{to_caller, to_normal}
 use Rattle.judgements.specs.declared.Deed.{Deed}
 use Rattle.judgements.specs.declared.Deed.TheVariants.{Nothing, Move, Map, Unmap, Start, GoOff, HandOver, Finish}

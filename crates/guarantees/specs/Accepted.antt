@@ -9,9 +9,11 @@ use Rattle.pages.specs.Window.{run_of}
 use Rattle.pages.specs.declared.Place.TheVariants.{Page}
 use Rattle.rules.specs.Sizes.{most_cores}
 use Rattle.judgements.specs.Judge.{Sight, one_of, callers}
-use Rattle.judgements.specs.Asked.{Reached, called_for}
+use Rattle.judgements.specs.Asked.{Reached}
+use Rattle.judgements.proofs.Asked.{called_for}
 use Rattle.judgements.specs.Grounds.{Calls}
-use Rattle.judgements.specs.Decided.{Decided, asked_transfer, MovesRun}
+use Rattle.judgements.specs.Decided.{Decided, MovesRun}
+use Rattle.judgements.proofs.Decided.{asked_transfer}
 use Rattle.judgements.specs.declared.Answer.TheVariants.{Done}
 use Rattle.judgements.specs.declared.Deed.{Deed}
 use Rattle.judgements.specs.declared.Deed.TheVariants.{Move}

@@ -5,13 +5,15 @@ use Rattle.rules.specs.Choice.{pick, pick_yes, pick_no}
 use Rattle.identifiers.specs.Identifier.{admitted}
 use Rattle.ledger.specs.Ledger.{handler}
 use Rattle.ledger.specs.Only.{only}
-use Rattle.ledger.specs.OneHandler.{Attempt, One, answer, accepted, covers, one_handler}
+use Rattle.ledger.specs.OneHandler.{Attempt, One, answer, accepted, covers}
+use Rattle.ledger.proofs.OneHandler.{one_handler}
 use Rattle.ledger.specs.OneHandler as OneHandler
 use Rattle.rules.specs.declared.Entered.TheVariants as Entered
 use Rattle.rules.specs.Sizes.{secure, normal, realm}
 use Rattle.judgements.specs.Judge.{called_by, args_of, found, one_of, callers}
 use Rattle.judgements.specs.Grounds.{Calls, Takes}
-use Rattle.judgements.specs.Asked.{key, judged_found}
+use Rattle.judgements.specs.Asked.{key}
+use Rattle.judgements.proofs.Asked.{judged_found}
 use Rattle.calls.specs.Step.{State, sight, caller_of, judged_in, called, applied}
 use Rattle.parsing.specs.declared.Status.{Status}
 use Rattle.parsing.specs.declared.Status.TheVariants.{Accepted, NoHex, Unknown, Misplaced, OutOfRange, Clash}

@@ -11,10 +11,11 @@ use Rattle.pages.specs.declared.Place.{Place}
 use Rattle.pages.specs.declared.Place.TheVariants.{Page, Outside}
 use Rattle.mapping.proofs.Sound.{unmet_run, unmet_if}
 use Rattle.ranges.specs.declared.Mapping.{Mapping}
-use Rattle.transfers.specs.Granted.{transfer_granted, movable_granted, moved_from}
+use Rattle.transfers.proofs.Granted.{transfer_granted, movable_granted, moved_from}
 use Rattle.transfers.specs.declared.Verdict.TheVariants.{Granted}
 use Rattle.judgements.specs.Judge.{owned_at, good_start}
-use Rattle.judgements.specs.Grounds.{Takes, Between, grounded}
+use Rattle.judgements.specs.Grounds.{Takes, Between}
+use Rattle.judgements.proofs.Grounds.{grounded}
 use Rattle.judgements.specs.Grounds.Between.{to_caller, to_normal}
 use Rattle.judgements.specs.Granted.{move_verdict}
 use Rattle.judgements.specs.declared.Deed.TheVariants.{Move, Start}

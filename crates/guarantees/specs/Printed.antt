@@ -22,8 +22,9 @@ use Rattle.ranges.specs.declared.Mapping.{Mapping}
 use Rattle.rules.specs.Sizes.{secure, normal, realm}
 use Rattle.judgements.specs.Grounds.{Takes}
 use Rattle.judgements.specs.Judge.{called_by, args_of}
-use Rattle.judgements.specs.Asked.{called_for, leads_asked, count_asked}
-use Rattle.judgements.specs.Decided.{TellsLead, leads, leads_not, asked_where, asked_count}
+use Rattle.judgements.proofs.Asked.{called_for, leads_asked, count_asked}
+use Rattle.judgements.specs.Decided.{TellsLead, leads, leads_not}
+use Rattle.judgements.proofs.Decided.{asked_where, asked_count}
 use Rattle.judgements.specs.declared.Answer.TheVariants.{Leads, Count}
 use Rattle.judgements.specs.declared.Deed.{Deed}
 use Rattle.judgements.specs.declared.Deed.TheVariants.{Nothing, Move, Map, Unmap, Start, GoOff, HandOver, Finish}

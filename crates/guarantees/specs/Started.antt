@@ -9,8 +9,8 @@ use Rattle.cores.specs.Power.{power_of, pending, on, is_pending}
 use Rattle.cores.specs.Cores.{power, first_power_zero, first_power_other}
 use Rattle.cores.specs.declared.Power.{Power}
 use Rattle.judgements.specs.Judge.{called_by, args_of}
-use Rattle.judgements.specs.Asked.{called_for}
-use Rattle.judgements.specs.Decided.{asked_start}
+use Rattle.judgements.proofs.Asked.{called_for}
+use Rattle.judgements.proofs.Decided.{asked_start}
 use Rattle.judgements.specs.declared.Deed.{Deed}
 use Rattle.judgements.specs.declared.Deed.TheVariants.{Nothing, Move, Map, Unmap, Start, GoOff, HandOver, Finish}
 use Rattle.calls.specs.Step.{sight}

@@ -23,11 +23,13 @@ use Rattle.mapping.proofs.Sound.{granted_formed}
 use Rattle.mapping.proofs.Granted.{granted_mappable, mappable_granted, overlap_refused}
 use Rattle.rules.specs.Sizes.{secure, normal, most_cores}
 use Rattle.judgements.specs.Judge.{called_by, args_of, affirmed, found, wanted}
-use Rattle.judgements.specs.Asked.{Finishes, by_secure, by_realm, called_for, leads_asked, judged_reserved}
-use Rattle.judgements.specs.Decided.{asked_map, asked_unmap, asked_start, asked_off, asked_hand_over, asked_finish, asked_where, asked_count, asked_version, asked_power_version, asked_features, asked_power_features, asked_unknown_call, asked_barred}
-use Rattle.judgements.specs.Granted.{asked_moved, asked_mapped, asked_unmappable, asked_led}
-use Rattle.judgements.specs.Hint.{hint_idle, hint_width, fast_key, yielding_key, Plain, asked_known, asked_unknown}
-use Rattle.judgements.specs.Grounds.{grounded}
+use Rattle.judgements.specs.Asked.{Finishes, by_secure, by_realm, judged_reserved}
+use Rattle.judgements.proofs.Asked.{called_for, leads_asked}
+use Rattle.judgements.proofs.Decided.{asked_map, asked_unmap, asked_start, asked_off, asked_hand_over, asked_finish, asked_where, asked_count, asked_version, asked_power_version, asked_features, asked_power_features, asked_unknown_call, asked_barred}
+use Rattle.judgements.proofs.Granted.{asked_moved, asked_mapped, asked_unmappable, asked_led}
+use Rattle.judgements.specs.Hint.{hint_idle, hint_width, fast_key, yielding_key, Plain}
+use Rattle.judgements.proofs.Hint.{asked_known, asked_unknown}
+use Rattle.judgements.proofs.Grounds.{grounded}
 use Rattle.judgements.specs.declared.Answer.{Answer}
 use Rattle.judgements.specs.declared.Answer.TheVariants as Answer
 use Rattle.judgements.specs.declared.Answer.TheVariants.{No}

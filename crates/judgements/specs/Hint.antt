@@ -123,33 +123,21 @@ module _ (n : ℕ) where
       either (eqb (bits 16 16 n) 0) (λ b. inl (let g : bits 16 16 n ≡ 0 = eqb-true _ _ b in omega arith)) (λ b. inr (let g : bits 16 16 n ≡ 0 → ⊥ = eqb-false _ _ b in omega arith)))
       (λ y. inl (let h : bits 31 31 n ≡ 1 → ⊥ = eqb-false _ _ y in sym (key_yielding (record { 0 = n }) (omega arith)) ∙ e))
 
-  known : (ks : List ℕ) → Plain ks → Known n ks → one_of (key_of (record { 0 = n })) ks ≡ true
+  pub known : (ks : List ℕ) → Plain ks → Known n ks → one_of (key_of (record { 0 = n })) ks ≡ true
   unfolding one_of
   known (k ∷ ks) p (inl h) = first_or _ _ (eq-eqb _ _ (key_of_lem k p.0.0 p.0.1 h))
   known (k ∷ ks) p (inr h) = second_or (eqb (key_of (record { 0 = n })) k) _ (known ks p.1 h)
   known [] p x'' = elim x'' [ ]
 
-  unknown : (ks : List ℕ) → (Known n ks → ⊥) → one_of (key_of (record { 0 = n })) ks ≡ false
+  pub unknown : (ks : List ℕ) → (Known n ks → ⊥) → one_of (key_of (record { 0 = n })) ks ≡ false
   unfolding one_of
   unknown [] d = refl
   unknown (k ∷ ks) d = neither _ _ (ne_eqb _ _ (λ (e : key_of (record { 0 = n }) ≡ k). d (inl (of_key k e)))) (unknown ks (λ h. d (inr h)))
 
 -- what a call reads of x1 has the same low half
-arg_low : (p : Parts) (x : ℕ) → low32 (argument p x) ≡ low32 x
+pub arg_low : (p : Parts) (x : ℕ) → low32 (argument p x) ≡ low32 x
 unfolding argument
 arg_low p x = chosen (λ (n : ℕ). low32 n ≡ low32 x) (eqb p.wide 0) _ _ (λ e. omega arith) (λ e. refl)
-
-module _ (xs : List ℕ) (ks : List ℕ) where
-  asked_low : asked (args_of (called_by xs) xs) ≡ key_of (record { 0 = low32 (get_or xs 1 0) })
-  unfolding identifier_of args_of
-  asked_low = ap (λ (n : ℕ). key_of (record { 0 = n })) (arg_low (called_by xs) (get_or xs 1 0))
-
-  -- A question is affirmed where the low half of x1 is in the list, with bit 16 set or not, and no other is.
-  pub asked_known : Plain ks → Known (low32 (get_or xs 1 0)) ks → one_of (asked (args_of (called_by xs) xs)) ks ≡ true
-  asked_known p h = ap (λ (k : ℕ). one_of k ks) asked_low ∙ known (low32 (get_or xs 1 0)) ks p h
-
-  pub asked_unknown : (Known (low32 (get_or xs 1 0)) ks → ⊥) → one_of (asked (args_of (called_by xs) xs)) ks ≡ false
-  asked_unknown d = ap (λ (k : ℕ). one_of k ks) asked_low ∙ unknown (low32 (get_or xs 1 0)) ks d
 
 -- ---- the key of a call in plain numbers
 module _ (xs : List ℕ) where

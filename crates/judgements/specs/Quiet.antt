@@ -1,12 +1,9 @@
 -- A call that Realm makes on its own list of mappings does nothing else, whatever handler the ledger has for it.
-use Rattle.std.specs.Prelude.{◌≡◌, refl, List, ℕ, ◌≤◌}
+use Rattle.std.specs.Prelude.{◌≡◌, ℕ, ◌≤◌}
 use Rattle.std.proofs.Common.{⊎_elim, arith}
-use Rattle.rules.specs.Sizes.{realm}
 use Rattle.judgements.specs.Names.{granule_to_realm, granule_to_normal, take_pages, give_pages, map_pages, unmap_pages, where_leads}
-use Rattle.judgements.specs.Judge.{Sight, judged}
 use Rattle.judgements.specs.Alike.{OnList, row_by}
-use Rattle.judgements.specs.Grounds.{Grounds, grounded}
-use Rattle.judgements.specs.Asked.{Asks, by_row_lem, Finishes, by_secure, by_realm, called_for, key}
+use Rattle.judgements.specs.Asked.{Asks, by_row_lem, Finishes, by_secure, by_realm}
 use Rattle.judgements.specs.declared.Deed.{Deed}
 use Rattle.judgements.specs.declared.Deed.TheVariants.{Nothing, Move, Map, Unmap, Start, GoOff, HandOver, Finish}
 use Rattle.judgements.specs.declared.Args.{Args}
@@ -29,27 +26,13 @@ on_list_range : (k : ℕ) → OnList k → (map_pages ≤ k) × (k ≤ where_lea
 on_list_range k =
     ⊎_elim (λ (e : k ≡ map_pages). (omega arith, omega arith)) (⊎_elim (λ (e : k ≡ unmap_pages). (omega arith, omega arith)) (λ (e : k ≡ where_leads). (omega arith, omega arith)))
 
-no_transfer : {v : Caller} {a : Args} {h k start count to : ℕ} → Asks v a h k start count to → OnList k → ⊥
+pub no_transfer : {v : Caller} {a : Args} {h k start count to : ℕ} → Asks v a h k start count to → OnList k → ⊥
 no_transfer {a = a} {h = h} {k = k} (by_row_lem t e) on =
     let r = on_list_range k on in
     row_by a h k (λ (q : Row). q ≡ Is t → ⊥) (λ f. let z : ◌≡◌ {A = ℕ} 0 1 = cc in omega arith)
     (λ u f g w. ⊎_elim (λ (y : k ≡ granule_to_realm). omega (arith, r.0)) (λ (y : k ≡ take_pages). omega (arith, r.0)) g)
     (λ u f g w. ⊎_elim (λ (y : k ≡ granule_to_normal). omega (arith, r.1)) (λ (y : k ≡ give_pages). omega (arith, r.0)) g) e
 
-no_finish : {h k w : ℕ} → Finishes h k w → OnList k → ⊥
+pub no_finish : {h k w : ℕ} → Finishes h k w → OnList k → ⊥
 no_finish by_secure on = omega (arith, on_list_range _ on)
 no_finish by_realm on = omega (arith, on_list_range _ on)
-
--- Realm's call on its own list does nothing else, whatever handler the ledger has for it.
-pub quiet : (s : Sight) (xs : List ℕ) → OnList (key xs) → s.inner.caller.world ≡ realm → OwnList (judged s xs).deed
-quiet s xs on is = which (judged s xs).deed refl (grounded s xs).stands
-  where
-    which : (d : Deed) → (judged s xs).deed ≡ d → Grounds s.inner d → OwnList d
-    which Nothing e g = tt
-    which (Move first count to) e g = no_transfer (called_for s xs _ (λ f. let z : ◌≡◌ {A = ℕ} 0 1 = cc in omega arith) e).so.0.asks on
-    which (Map m) e g = tt
-    which (Unmap virt size) e g = tt
-    which (Start core start context) e g = omega (arith, g.caller)
-    which GoOff e g = omega arith
-    which (HandOver to) e g = omega (arith, g.0)
-    which Finish e g = no_finish (called_for s xs Finish (λ f. let z : ◌≡◌ {A = ℕ} 0 1 = cc in omega arith) e).so.0 on

@@ -3,4 +3,3 @@ pub mod Room
 pub mod Ledger
 pub mod Only
 pub mod OneHandler
-pub mod Spare

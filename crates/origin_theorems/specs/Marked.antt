@@ -9,7 +9,8 @@ use Rattle.pages.specs.Naming.{naming_granted}
 use Rattle.pages.specs.declared.Window.{Window}
 use Rattle.pages.specs.declared.Place.TheVariants.{Page}
 use Rattle.judgements.specs.Judge.{called_by, args_of}
-use Rattle.judgements.specs.Asked.{key, Asks, by_row_lem, called_for}
+use Rattle.judgements.specs.Asked.{key, Asks, by_row_lem}
+use Rattle.judgements.proofs.Asked.{called_for}
 use Rattle.judgements.specs.declared.Args.{Args}
 use Rattle.judgements.specs.declared.Caller.{Caller}
 use Rattle.judgements.specs.declared.Row.{Row}

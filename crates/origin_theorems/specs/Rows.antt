@@ -13,8 +13,10 @@ use Rattle.ledger.specs.Ledger.{handler}
 use Rattle.ledger.specs.declared.Lookup.TheVariants.{Handler}
 use Rattle.judgements.specs.Names.{granule_to_realm, granule_to_normal, take_pages, give_pages}
 use Rattle.judgements.specs.Judge.{HandlerSight, Sight, denied, called_by, args_of, Listed, transfers, row_in, row_of, architecture, board, handing, handing_to_realm, realm_call, standard, trusted, by_number, by_row, by_handler, judged}
-use Rattle.judgements.specs.Asked.{key, by_row_lem, judged_by_lem}
-use Rattle.judgements.specs.Decided.{Decided, done, refused, MovesRun, asked_transfer}
+use Rattle.judgements.specs.Asked.{key, by_row_lem}
+use Rattle.judgements.proofs.Asked.{judged_by_lem}
+use Rattle.judgements.specs.Decided.{Decided, done, refused, MovesRun}
+use Rattle.judgements.proofs.Decided.{asked_transfer}
 use Rattle.judgements.specs.declared.Answer.{Answer}
 use Rattle.judgements.specs.declared.Answer.TheVariants as Answer
 use Rattle.judgements.specs.declared.Judged.{Judged}

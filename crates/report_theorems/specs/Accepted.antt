@@ -4,7 +4,7 @@ use Rattle.std.proofs.Common.{sym, ap, ◌∙◌, arith, length-append}
 use mathlib.Core.List.{List, [], ◌∷◌}
 use Rattle.rules.specs.Choice.{pick, chosen}
 use Rattle.judgements.specs.Judge.{called_by}
-use Rattle.judgements.specs.Asked.{called_for}
+use Rattle.judgements.proofs.Asked.{called_for}
 use Rattle.judgements.specs.declared.Deed.TheVariants.{GoOff, HandOver, Finish}
 use Rattle.answers.specs.Answers.{told}
 use Rattle.calls.specs.Step.{sight, called}

@@ -12,8 +12,8 @@ use Rattle.cores.specs.Power.{is_on}
 use Rattle.cores.specs.Cores.{power, on_count, on_count_le}
 use Rattle.judgements.specs.Judge.{called_by}
 use Rattle.judgements.specs.Grounds.{Calls, Takes}
-use Rattle.judgements.specs.Asked.{count_asked}
-use Rattle.judgements.specs.Decided.{asked_count}
+use Rattle.judgements.proofs.Asked.{count_asked}
+use Rattle.judgements.proofs.Decided.{asked_count}
 use Rattle.judgements.specs.declared.Answer.{Answer}
 use Rattle.judgements.specs.declared.Answer.TheVariants.{Version, PowerVersion, Done, On, Off, Pending, Owns, Leads, Count, Silent, No}
 use Rattle.answers.specs.Answers.{told}

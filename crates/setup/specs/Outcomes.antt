@@ -4,7 +4,8 @@ use Rattle.std.proofs.Common.{arith}
 use Rattle.std.proofs.lemmas.Bool.{not-false}
 use Rattle.rules.specs.Sizes.{root}
 use Rattle.rules.specs.Choice.{chosen, not_first, not_second}
-use Rattle.ledger.specs.Ledger.{entered, refused_same}
+use Rattle.ledger.specs.Ledger.{entered}
+use Rattle.ledger.proofs.Ledger.{refused_same}
 use Rattle.rules.specs.declared.Entered.{Entered}
 use Rattle.rules.specs.declared.Entered.TheVariants as Entered
 use Rattle.pages.specs.Owners.{given}

@@ -25,9 +25,11 @@ use Rattle.mapping.specs.declared.Lead.{Lead}
 use Rattle.mapping.specs.declared.Lead.TheVariants.{To}
 use Rattle.judgements.specs.Names.{granule_to_realm, granule_to_normal, take_pages, give_pages, map_pages, unmap_pages}
 use Rattle.judgements.specs.Judge.{Sight, called_by, args_of, Listed, row_in, row_of, wanted, architecture, standard, realm_call, handing_to_realm, trusted, by_number, by_row, by_handler, judged}
-use Rattle.judgements.specs.Asked.{key, Reached, called_for, judged_by_lem}
-use Rattle.judgements.specs.Grounds.{grounded}
-use Rattle.judgements.specs.Decided.{Decided, done, refused, asked_map, asked_unmap}
+use Rattle.judgements.specs.Asked.{key, Reached}
+use Rattle.judgements.proofs.Asked.{called_for, judged_by_lem}
+use Rattle.judgements.proofs.Grounds.{grounded}
+use Rattle.judgements.specs.Decided.{Decided, done, refused}
+use Rattle.judgements.proofs.Decided.{asked_map, asked_unmap}
 use Rattle.judgements.specs.declared.Answer.{Answer}
 use Rattle.judgements.specs.declared.Answer.TheVariants as Answer
 use Rattle.judgements.specs.declared.Args.{Args}

@@ -9,7 +9,8 @@ use Rattle.pages.specs.declared.Window.{Window}
 use Rattle.pages.specs.declared.Place.{Place}
 use Rattle.pages.specs.declared.Place.TheVariants.{Page}
 use Rattle.judgements.specs.Asked.{Asks, by_row_lem}
-use Rattle.judgements.specs.Decided.{Decided, done, refused, asked_transfer}
+use Rattle.judgements.specs.Decided.{Decided, done, refused}
+use Rattle.judgements.proofs.Decided.{asked_transfer}
 use Rattle.judgements.specs.declared.Answer.TheVariants as Answer
 use Rattle.judgements.specs.declared.Args.{Args}
 use Rattle.judgements.specs.declared.Caller.{Caller}

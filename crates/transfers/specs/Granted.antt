@@ -1,18 +1,16 @@
 -- What a granted transfer says of its run, and what it leaves: the owner of each page, and the mappings of every world.
-use Rattle.std.proofs.Math.Path.{◌≡◌, refl, sym}
+use Rattle.std.proofs.Math.Path.{◌≡◌, refl}
 use Rattle.std.proofs.Common.{ap, ◌∙◌, arith}
-use Rattle.std.specs.Prelude.{Bool, not, List, [], ◌∷◌, ℕ, ◌+◌, ◌≤◌, ◌<◌, eqb}
+use Rattle.std.specs.Prelude.{Bool, not, List, ℕ}
 use Rattle.std.proofs.Math.Bool.{true, false}
-use borrow.Author.Tests.{ne_eqb, eqb-false, not-false}
 use Rattle.rules.specs.Choice as Choice
 use Rattle.rules.specs.Choice.{pick, chosen, chosen_two}
-use Rattle.rules.specs.Tests.{Test, Clear, refuses, sieve, goes, ends, sieved, sieved_two}
+use Rattle.rules.specs.Tests.{Test, Clear, sieve, sieved, sieved_two}
 use Rattle.rules.specs.Reasons.{minus}
 use Rattle.rules.specs.declared.Reason.{Reason}
-use Rattle.rules.specs.declared.Reason.TheVariants.{NoPages, Invalid, WrongOwner, Mapped}
-use Rattle.rules.specs.Sizes.{last_world, most_pages}
+use Rattle.rules.specs.declared.Reason.TheVariants.{Invalid, WrongOwner, Mapped}
 use Rattle.pages.specs.Window.{acceptable, run_of}
-use Rattle.pages.specs.Owners.{WholeOwners, owner, owned, given, owned_at, owned_ends, given_inside}
+use Rattle.pages.specs.Owners.{owned, given}
 use Rattle.pages.specs.declared.Window.{Window}
 use Rattle.pages.specs.declared.Place.{Place}
 use Rattle.pages.specs.declared.Place.TheVariants.{Page, Outside}
@@ -33,43 +31,10 @@ pub record Movable (w : Window) (o : List ℕ) (list : List Mapping) (from start
   pub unmet : meets_run list start count ≡ false
 
 -- where the outcome is a grant, no test held, and the outcome that was to stand is that grant
-passes : (ts : List (Test Reason)) (v : Verdict) (first : ℕ) → sieve No ts v ≡ Granted first → Clear ts × (v ≡ Granted first)
+pub passes : (ts : List (Test Reason)) (v : Verdict) (first : ℕ) → sieve No ts v ≡ Granted first → Clear ts × (v ≡ Granted first)
 passes ts v first =
     sieved (λ (r : Verdict). r ≡ Granted first → Clear ts × (v ≡ Granted first)) No ts v
     (λ r z. let y : ◌≡◌ {A = ℕ} 0 1 = cc in absurd (omega arith)) (λ c z. (c, z))
-
-module _ (w : Window) (o : List ℕ) (list : List Mapping) (from start count first : ℕ) where
-  there_granted : (k : Place) → run_of w start count ≡ k → move_tests k o list from start count ≡ Granted first → Movable w o list from start count first
-  unfolding move_tests Clear
-  there_granted (Page page) e g =
-      let c = passes _ (Granted page) first g in
-      let y : page ≡ first = cc in
-      record { lies = rw (← y) e; mine = rw (← y) (not-false _ c.0.0); unmet = c.0.1.0 }
-  there_granted Outside e g = let y : ◌≡◌ {A = ℕ} 0 1 = cc in absurd (omega arith)
-
-  -- there is a page, and the run may move
-  pub transfer_granted : transfer_verdict w o list from start count ≡ Granted first → Movable w o list from start count first × (count ≡ 0 → ⊥)
-  unfolding transfer_verdict Clear
-  transfer_granted g =
-      let c = passes (refuses (eqb count 0) NoPages ∷ []) _ first g in (there_granted (run_of w start count) refl c.1, eqb-false _ _ c.0.0)
-
-  -- and such a run is granted
-  pub movable_granted : Movable w o list from start count first → (count ≡ 0 → ⊥) → transfer_verdict w o list from start count ≡ Granted first
-  unfolding transfer_verdict move_tests
-  movable_granted m n =
-      sym (goes _ _ _ _ _ _ (ne_eqb count 0 n) (ends _ _ _
-      (rw m.lies (goes _ _ _ _ _ _ (Choice.not_false _ m.mine) (goes _ _ _ _ _ _ m.unmet (ends _ _ _ refl))))))
-
-  -- ---- the owners after a transfer
-  module _ (m : Movable w o list from start count first) (page : ℕ) where
-    -- a page of the run was the giver's, and is the receiver's; any other page keeps its owner (`given_outside`)
-    pub moved_from : first ≤ page → page < first + count → owner o page ≡ from
-    moved_from h l = owned_at o first count from page m.mine h l
-
-    pub moved_to : (to : ℕ) → WholeOwners o → to ≤ last_world → first ≤ page → page < first + count → owner (given o first count to) page ≡ to
-    moved_to to k t h l =
-        let b : first + count ≤ most_pages = owned_ends o first count from m.mine (omega arith) in
-        given_inside o first count to page k t b h l
 
 -- ---- the mappings after a granted transfer: no page that a world has mapped is another's.
 -- The giver has mapped no page of the run, and what another world has mapped is its own, where the run is the giver's.

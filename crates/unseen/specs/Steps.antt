@@ -11,7 +11,7 @@ use Rattle.registers.specs.Registers.{saved}
 use Rattle.cores.specs.Power.{is_on}
 use Rattle.cores.specs.Cores.{power}
 use Rattle.judgements.specs.Alike.{on_list_or, Level}
-use Rattle.judgements.specs.Quiet.{quiet}
+use Rattle.judgements.proofs.Quiet.{quiet}
 use Rattle.judgements.specs.Asked.{key}
 use Rattle.judgements.specs.declared.Answer.TheVariants.{Done, No}
 use Rattle.calls.specs.Step.{State, sight, caller_of, judged_in, applied, called, CoreTables, start_numbers, arrived_in}

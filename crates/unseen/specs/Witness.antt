@@ -5,7 +5,8 @@ use Rattle.rules.specs.Choice.{pick}
 use Rattle.rules.specs.Tests.{sieve}
 use Rattle.rules.specs.declared.Entered.TheVariants as Entered
 use Rattle.identifiers.specs.Identifier.{identifier_of, parts, key_of, admitted}
-use Rattle.ledger.specs.Ledger.{empty, empty_proper, empty_handler, handler, entered, recorded, accepted_where, covered}
+use Rattle.ledger.specs.Ledger.{empty, empty_proper, empty_handler, handler, entered, recorded}
+use Rattle.ledger.proofs.Ledger.{accepted_where, covered}
 use Rattle.ledger.specs.declared.Lookup.TheVariants.{Handler}
 use Rattle.registers.specs.Registers.{zeros}
 use Rattle.cores.specs.Power.{is_on}

@@ -2,7 +2,8 @@
 use Rattle.std.specs.Prelude.{◌≡◌, List, [], ◌∷◌, ℕ, ◌+◌, length, take}
 use Rattle.std.proofs.Common.{arith}
 use Rattle.rules.specs.Choice.{pick_yes, pick_no, either}
-use Rattle.ledger.specs.Ledger.{Proper, empty, handler, used, empty_proper, empty_used, is_accepted, entered_proper, used_after, rest_unread}
+use Rattle.ledger.specs.Ledger.{Proper, empty, handler, used, empty_proper, empty_used, is_accepted, rest_unread}
+use Rattle.ledger.proofs.Ledger.{entered_proper, used_after}
 use Rattle.ledger.specs.OneHandler.{Attempt, answer, next, ran, accepted}
 
 counts : (tries : List Attempt) (t : List ℕ) → Proper t → used (ran t tries) ≡ used t + length (accepted t tries)

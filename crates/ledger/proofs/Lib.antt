@@ -1,0 +1,3 @@
+pub mod Ledger
+pub mod OneHandler
+pub mod Spare
