@@ -5,12 +5,14 @@
 ghost use Rattle.std.specs.Prelude.{◌≤◌};
 
 use building::Built;
-use libc::STDERR_FILENO;
 use spelling::MOST_NUMBERS;
+use std::env::FillError;
+use std::io;
+use std::rt::Env;
 
 // A line on standard error.
-fn say(line: &[u8]) {
-    io::write_all(STDERR_FILENO, line);
+fn say(rt: &impl Eprint, line: &str) -> io::Result<()> {
+    eprint!(rt; "{line}")
 }
 
 // How many numbers are lent. More than the tables of any run take make no difference.
@@ -23,46 +25,50 @@ fn room_of(n: u64) -> usize
     n as usize
 }
 
-fn build(world: u64, room: usize)
+fn build(rt: &(impl Input + Print + Eprint), world: u64, room: usize) -> io::Result<()>
     requires { room ≤ 22528 }
 {
     let mut numbers = [0u64; MOST_NUMBERS];
-    let made = tables_console::make(&mut numbers[0..room], world);
+    let made = tables_console::make(rt, &mut numbers[0..room], world);
     if !made.whole {
-        say(b"the run could not be read to its end\n");
-        return;
+        return say(rt, "the run could not be read to its end\n");
     }
     let built = made.built;
     match built {
-        Built::NoRoom => say(b"88: the tables do not fit into so many numbers\n"),
+        Built::NoRoom => say(rt, "88: the tables do not fit into so many numbers\n"),
         Built::Tables(count) => {
             let mut bytes = [0u8; 180224];
-            if !tables_console::tell(&numbers, &mut bytes, count) {
-                os::fail(b"standard output");
+            if !tables_console::tell(rt, &numbers, &mut bytes, count) {
+                return say(rt, "standard output: the tables could not be written\n");
             }
+            Ok(())
         }
     }
 }
 
-fn main() {
-    let words = os::arg_count();
+// Whether the program was started with so many words behind its name, or more.
+fn has_word(rt: &impl Env, i: usize) -> bool {
+    let mut word = [0u8; 1];
+    !matches!(rt.arg(i, &mut word), Err(FillError::NotPresent))
+}
+
+fn main(rt: HostRuntime) -> io::Result<()> {
     let mut name = [0u8; 8];
-    let n = os::arg(1, &mut name);
+    let n = rt.arg(1, &mut name).unwrap_or(0);
     let world = arguments::world_of(&name[..n]);
     let mut digits = [0u8; 32];
-    let d = os::arg(2, &mut digits);
+    let d = rt.arg(2, &mut digits).unwrap_or(0);
     let count = arguments::count_of(&digits[..d]);
-    let is_plain = words == 2;
-    let is_lent = words == 3 && count.given;
+    let is_plain = has_word(&rt, 1) && !has_word(&rt, 2);
+    let is_lent = has_word(&rt, 2) && !has_word(&rt, 3) && count.given;
     if world == rules::ROOT || (!is_plain && !is_lent) {
-        say(
-            b"usage: tables secure|normal|realm [NUMBERS], with a run of frames on standard input\n",
+        return say(
+            &rt,
+            "usage: tables secure|normal|realm [NUMBERS], with a run of frames on standard input\n",
         );
-        return;
     }
     if is_lent {
-        build(world, room_of(count.n));
-        return;
+        return build(&rt, world, room_of(count.n));
     }
-    build(world, MOST_NUMBERS);
+    build(&rt, world, MOST_NUMBERS)
 }

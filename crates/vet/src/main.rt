@@ -1,122 +1,191 @@
 // Vets a file of tables against what a world has mapped after the run on standard input: vet WORLD TABLES.
 #![tactic(auto)]
 
-use libc::{STDERR_FILENO, STDOUT_FILENO};
+ghost use Rattle.std.specs.Prelude.{◌≤◌, length, IfOk};
+
 use mapping::Lists;
 use rules::ROOT;
+use std::env::FillError;
+use std::io::{Error, Read};
+use std::rt::{Env, Files};
+use std::{fs, io};
 use table_files::Numbers;
 use vetting::Vetted;
 
 // One byte more than the numbers have at most, so that a longer file is seen to be one.
 const SPACE: usize = 8 * table_files::MOST + 1;
 
+// Room for any path.
+const PATH: usize = 4096;
+
+// The system's numbers for no fault, for a name that is too long, and for bytes that are no text.
+const NO_FAULT: i32 = 0;
+
+const TOO_LONG: i32 = 36;
+
+const NO_TEXT: i32 = 84;
+
 // A line on standard error.
-fn say(line: &[u8]) {
-    io::write_all(STDERR_FILENO, line);
+fn say(rt: &impl Eprint, line: &str) -> io::Result<()> {
+    eprint!(rt; "{line}")
+}
+
+// What failed, a colon, and the system's words for the fault.
+fn fail(rt: &(impl Eprint + Alloc), what: &str, e: Error) -> io::Result<()> {
+    let text = format!(in rt.alloc(); "{e}")?;
+    match text.split_once(" (os error ") {
+        Some((words, _)) => eprintln!(rt; "{what}: {words}"),
+        None => eprintln!(rt; "{what}: {text}"),
+    }
 }
 
 // The rule that was broken.
-fn rule(status: u64) {
+fn rule(rt: &impl Eprint, status: u64) -> io::Result<()> {
     match status {
-        vetting::TABLE_OUTSIDE => say(b"a table does not lie wholly in the numbers\n"),
+        vetting::TABLE_OUTSIDE => say(rt, "a table does not lie wholly in the numbers\n"),
         vetting::RESERVED => say(
-            b"a reserved descriptor: bits 1 to 0, bit 10 clear, or a set bit with no meaning\n",
+            rt,
+            "a reserved descriptor: bits 1 to 0, bit 10 clear, or a set bit with no meaning\n",
         ),
-        vetting::TABLE_AGAIN => say(b"a table is reached twice\n"),
-        _ => say(b"the list answers this address otherwise\n"),
+        vetting::TABLE_AGAIN => say(rt, "a table is reached twice\n"),
+        _ => say(rt, "the list answers this address otherwise\n"),
     }
 }
 
 // The status, the virtual address and the rule.
-fn refuse(status: u64, at: u64) {
-    let mut text = [0u8; 13];
-    hex_write::put_byte(&mut text, 0, status);
-    text[2] = b' ';
-    hex_write::put_digits(&mut text, 3, 8, at);
-    text[11] = b':';
-    text[12] = b' ';
-    say(&text);
-    rule(status);
+fn refuse(rt: &impl Eprint, status: u64, at: u64) -> io::Result<()> {
+    eprint!(rt; "{status:02x} {at:08x}: ")?;
+    rule(rt, status)
 }
 
-fn tell(v: Vetted) {
+fn tell(rt: &(impl Print + Eprint + Alloc), v: Vetted) -> io::Result<()> {
     match v {
-        Vetted::Accepted => {
-            if !io::write_all(STDOUT_FILENO, b"accepted\n") {
-                os::fail(b"standard output");
-            }
-        }
-        Vetted::Refused { status, at } => refuse(status, at),
+        Vetted::Accepted => match rt.write_all(b"accepted\n") {
+            Ok(()) => Ok(()),
+            Err(e) => fail(rt, "standard output", e),
+        },
+        Vetted::Refused { status, at } => refuse(rt, status, at),
     }
 }
 
 // Vets the first n numbers.
-fn vet_first(numbers: &Numbers, n: usize, lists: &Lists, world: u64) {
+fn vet_first(
+    rt: &(impl Print + Eprint + Alloc),
+    numbers: &Numbers,
+    n: usize,
+    lists: &Lists,
+    world: u64,
+) -> io::Result<()> {
     let all: &[u64] = numbers;
     if n <= all.len() {
-        tell(vetting::vet(&all[0..n], lists, world));
+        tell(rt, vetting::vet(&all[0..n], lists, world))?;
     }
+    Ok(())
 }
 
 // Vets the n numbers in the bytes of a file.
-fn judge(bytes: &[u8], n: usize, world: u64) {
-    let run = console::run(false);
+fn judge(
+    rt: &(impl Input + Print + Eprint + Alloc),
+    bytes: &[u8],
+    n: usize,
+    world: u64,
+) -> io::Result<()> {
+    let run = console::run(rt, false);
     if !run.whole {
-        say(b"vet: the run could not be read to its end\n");
-        return;
+        return say(rt, "vet: the run could not be read to its end\n");
     }
     let mut numbers = [0u64; table_files::MOST];
     table_files::load(&mut numbers, bytes);
     let lists = run.lists;
-    vet_first(&numbers, n, &lists, world);
+    vet_first(rt, &numbers, n, &lists, world)
 }
 
-// Whether n bytes are all of the file, or too many: after a read that failed the end is not reached.
-fn is_read(fd: i32, n: usize) -> bool {
+// Reads until the buffer is full or the file ends: how many bytes there are then.
+fn read_full(file: &mut impl Read, buf: &mut [u8]) -> io::Result<usize>
+    ensures { IfOk result (λ n. n ≤ length buf.new) }
+{
+    let mut done = 0;
+    while done < buf.len() {
+        let n = file.read(&mut buf[done..])?;
+        if n == 0 {
+            return Ok(done);
+        }
+        done += n;
+    }
+    Ok(done)
+}
+
+// Whether n bytes are all of the file, or too many.
+fn is_read(file: &mut impl Read, n: usize) -> io::Result<bool> {
+    if n == SPACE {
+        return Ok(true);
+    }
     let mut more = [0u8; 1];
-    n == SPACE || libc::read(fd, &mut more) == 0
+    let got = file.read(&mut more)?;
+    Ok(got == 0)
+}
+
+// Reads a file, or as much of it as there is room for: how many bytes there are then.
+fn load(rt: &impl Files, path: &str, bytes: &mut [u8]) -> io::Result<usize>
+    ensures { IfOk result (λ n. n ≤ length bytes.new) }
+{
+    let mut file = fs::open(rt, path)?;
+    let n = read_full(&mut file, bytes)?;
+    if is_read(&mut file, n)? {
+        return Ok(n);
+    }
+    Err(Error::from_raw_os_error(NO_FAULT))
 }
 
 // A file is judged if it is a whole number of numbers, and not too many of them.
-fn vet_file(path: &[u8], world: u64) {
-    let fd = os::open_read(path);
-    if fd < 0 {
-        os::fail(path);
-        return;
-    }
+fn vet_file(
+    rt: &(impl Files + Input + Print + Eprint + Alloc),
+    path: &str,
+    world: u64,
+) -> io::Result<()> {
     let mut bytes = [0u8; SPACE];
-    let n = io::read_full(fd, &mut bytes);
-    if !is_read(fd, n) {
-        os::fail(path);
-        return;
-    }
-    libc::close(fd);
+    let n = match load(rt, path, &mut bytes) {
+        Ok(n) => n,
+        Err(e) => return fail(rt, path, e),
+    };
     if n == SPACE {
-        say(b"vet: the file has more than 32768 numbers, and is not judged\n");
-        return;
+        return say(
+            rt,
+            "vet: the file has more than 32768 numbers, and is not judged\n",
+        );
     }
     if n % 8 != 0 {
-        say(b"vet: the file is no whole number of 8-byte numbers, and is not judged\n");
-        return;
+        return say(
+            rt,
+            "vet: the file is no whole number of 8-byte numbers, and is not judged\n",
+        );
     }
-    judge(&bytes[..n], n / 8, world);
+    judge(rt, &bytes[..n], n / 8, world)
 }
 
-fn main() {
+// Whether the program was started with so many words behind its name, or more.
+fn has_word(rt: &impl Env, i: usize) -> bool {
+    let mut word = [0u8; 1];
+    !matches!(rt.arg(i, &mut word), Err(FillError::NotPresent))
+}
+
+fn main(rt: HostRuntime) -> io::Result<()> {
     let mut word = [0u8; 8];
-    let w = os::arg(1, &mut word);
+    let w = rt.arg(1, &mut word).unwrap_or(0);
     let world = arguments::world_of(&word[..w]);
-    if os::arg_count() != 3 || world == ROOT {
-        say(
-            b"usage: vet WORLD TABLES, where WORLD is secure, normal or realm; the run comes on standard input\n",
+    if !has_word(&rt, 2) || has_word(&rt, 3) || world == ROOT {
+        return say(
+            &rt,
+            "usage: vet WORLD TABLES, where WORLD is secure, normal or realm; the run comes on standard input\n",
         );
-        return;
     }
-    let mut path = io::buffer();
-    let p = os::arg(2, &mut path);
-    if os::errno() != 0 {
-        os::fail(b"vet");
-        return;
+    let mut room = [0u8; PATH];
+    let p = match rt.arg(2, &mut room) {
+        Ok(p) => p,
+        Err(_) => return fail(&rt, "vet", Error::from_raw_os_error(TOO_LONG)),
+    };
+    match str::from_utf8(&room[..p]) {
+        Ok(path) => vet_file(&rt, path, world),
+        Err(_) => fail(&rt, "vet", Error::from_raw_os_error(NO_TEXT)),
     }
-    vet_file(&path[..p], world);
 }
