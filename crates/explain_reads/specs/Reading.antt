@@ -16,10 +16,12 @@ use Rattle.parsing.specs.declared.Frame.{Frame}
 use Rattle.lines.specs.declared.Next.{Next}
 use Rattle.lines.specs.declared.Next.TheVariants.{Line, Unfinished}
 use Rattle.inputs.specs.Folds.{folded, left}
-use Rattle.inputs.specs.Feeding.{feeding, feeding_end, feeding_stop, feeding_line, feeds}
+use Rattle.inputs.specs.Feeding.{feeding}
+use Rattle.inputs.proofs.Feeding.{feeding_end, feeding_stop, feeding_line, feeds}
 use Rattle.inputs.specs.Waiting.{heard, front, sized, taken}
-use Rattle.inputs.specs.Closing.{closed}
+use Rattle.inputs.proofs.Closing.{closed}
 use Rattle.inputs.specs.Loop as Loop
+use Rattle.inputs.proofs.Loop as Looping
 use Rattle.phrases.specs.Text.{longest, told}
 use Rattle.tracing.specs.Traced.{Kept, after_line}
 use Rattle.views.specs.Views.{shown}
@@ -127,8 +129,8 @@ module _ (view : View) (k₀ k : Kept) (s₀ : List ℕ) (kept : ℕ) (v : Servi
 
   -- and brought something
   pub serving_on : kept ≤ n → (n ≡ kept → ⊥) → Serving k₀ k' s' kept'
-  serving_on = Loop.taken_on after_line reading k₀ k s₀ kept v s n same k' kept' s' so_taken
+  serving_on = Looping.taken_on after_line reading k₀ k s₀ kept v s n same k' kept' s' so_taken
 
   -- or nothing: the input has ended
   pub served_all : n ≡ kept → 1024 ≡ length s → Ran k₀ k'
-  served_all z h = Loop.taken_all after_line reading k₀ k s₀ kept v s n same k' kept' s' so_taken reading_blind z (omega arith)
+  served_all z h = Looping.taken_all after_line reading k₀ k s₀ kept v s n same k' kept' s' so_taken reading_blind z (omega arith)

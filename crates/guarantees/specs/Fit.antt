@@ -17,7 +17,8 @@ use Rattle.mapping.specs.Lists.{unmapped, held_unmapped}
 use Rattle.mapping.specs.Sound.{sound_none}
 use Rattle.calls.specs.Step.{State, state}
 use Rattle.calls.specs.Effects.{after_arrival, arrival_turns, arrived_runs}
-use Rattle.calls.specs.Right.{Right, called_right, arrival_right, first_right}
+use Rattle.calls.specs.Right.{Right, first_right}
+use Rattle.calls.proofs.Right.{called_right, arrival_right}
 use Rattle.calls.specs.declared.Site.{Site}
 use Rattle.parsing.specs.declared.Frame.{Frame}
 use Rattle.setup.specs.Table.{ready, ended, window, cores, unset_ready, unset_ended, fixed_ready, fixed_ended, fixed_window, fixed_cores, over, over_ready, over_ended, over_again}

@@ -10,7 +10,6 @@ pub mod Met
 pub mod Counted
 pub mod Steps
 pub mod HandedOver
-pub mod After
 pub mod Printed
 pub mod Theorems
 pub mod Cases

@@ -1,16 +1,15 @@
 -- Nothing is cut where it is printed: in a run over lines every number that an answer shows has at most sixteen digits, and its core and world at most two.
-use Rattle.std.specs.Prelude.{◌≡◌, refl, true, List, [], ◌∷◌, ◌++◌, map, ℕ, zero, suc, ◌+◌, ◌-◌, ◌*◌, ◌/◌, ◌%◌, ◌^◌, ◌≤◌, ◌<◌, ltb, length, get_or}
-use Rattle.std.proofs.Math.Path.{sym, ap}
-use Rattle.std.proofs.Common.{◌∙◌, ⊎_elim, arith, pow-suc, ltb-true, ltb-false}
+use Rattle.std.specs.Prelude.{◌≡◌, refl, List, [], ◌∷◌, ◌++◌, ℕ, zero, suc, ◌+◌, ◌-◌, ◌*◌, ◌/◌, ◌%◌, ◌^◌, ◌≤◌, ◌<◌, ltb, length, get_or}
+use Rattle.std.proofs.Math.Path.{ap}
+use Rattle.std.proofs.Common.{arith, pow-suc, ltb-true, ltb-false}
 use Rattle.std.proofs.Math.Option.{Option, none, some}
 use Rattle.std.proofs.Math.ListN.{get_or-append}
 use Rattle.std.proofs.Math.Seq.{get_or-append_seam}
 use Rattle.rules.specs.Choice.{chosen, either}
 use Rattle.identifiers.specs.Identifier.{argument}
 use Rattle.identifiers.specs.declared.Parts.{Parts}
-use Rattle.registers.specs.Registers.{saved, saved_no_number, saved_zeros}
-use Rattle.cores.specs.Power.{is_on}
-use Rattle.cores.specs.Cores.{power, on_count_le, on_count, first_power_zero, first_power_other}
+use Rattle.registers.specs.Registers.{saved, saved_zeros}
+use Rattle.cores.specs.Cores.{power, first_power_zero, first_power_other}
 use Rattle.pages.specs.declared.Window.{Window}
 use Rattle.mapping.specs.Mapping.{deciding, leading, lead_of}
 use Rattle.mapping.specs.Entries.{Every, every_among}
@@ -19,37 +18,19 @@ use Rattle.mapping.specs.Sound.{Formed}
 use Rattle.mapping.specs.declared.Lead.{Lead}
 use Rattle.mapping.specs.declared.Lead.TheVariants as Lead
 use Rattle.ranges.specs.declared.Mapping.{Mapping}
-use Rattle.rules.specs.Sizes.{secure, normal, realm}
-use Rattle.judgements.specs.Grounds.{Takes}
-use Rattle.judgements.specs.Judge.{called_by, args_of}
-use Rattle.judgements.proofs.Asked.{called_for, leads_asked, count_asked}
-use Rattle.judgements.specs.Decided.{TellsLead, leads, leads_not}
-use Rattle.judgements.proofs.Decided.{asked_where, asked_count}
-use Rattle.judgements.specs.declared.Answer.TheVariants.{Leads, Count}
 use Rattle.judgements.specs.declared.Deed.{Deed}
 use Rattle.judgements.specs.declared.Deed.TheVariants.{Nothing, Move, Map, Unmap, Start, GoOff, HandOver, Finish}
-use Rattle.answers.specs.Laws.{written_fits}
-use Rattle.calls.specs.Step.{sight, caller_of, judged_in}
-use Rattle.calls.specs.Effects.{deed_in, answer_in, results_in}
-use Rattle.calls.specs.Left.{power_started, power_off, power_spared}
 use Rattle.hex_digits.specs.Hex.{sign_of, value_of, value, numbers, in_hex, sign_low, sign_high, digit_low, digit_high, length_hex}
 use Rattle.hex_digits.specs.Read.{value_small}
-use Rattle.parsing.specs.Frame.{status_byte, frame_of, kind as parsing-kind, sized, parsed, parsed_call}
+use Rattle.parsing.specs.Frame.{frame_of, kind as parsing-kind, sized, parsed, parsed_call}
 use Rattle.lines.specs.Input.{reading}
-use Rattle.parsing.specs.declared.Status.{Status}
-use Rattle.parsing.specs.declared.Status.TheVariants.{Accepted, NoHex, Unknown, Misplaced, OutOfRange, Clash}
 use Rattle.parsing.specs.declared.Frame.{Frame}
 use Rattle.parsing.specs.declared.Frame.TheVariants as Frame
-use Rattle.frames.specs.Frames.{Machine, first, state_of}
+use Rattle.frames.specs.Frames.{Machine, first}
 use Rattle.showing.specs.declared.Reply.{Reply}
 use Rattle.showing.specs.declared.Reply.TheVariants.{Told, Called}
-use Rattle.guarantees.specs.Runs.{Event, byte, next, reply, Taken, replies}
-use Rattle.guarantees.specs.Fit.{Fit, fit_next, first_fit}
-use Rattle.guarantees.specs.Accepted.{performs, right, inside, may, powers_are}
-use Rattle.guarantees.specs.Started.{kind, power_cases, same_or_other}
-use Rattle.guarantees.specs.Statements.{running, GivesBack, HeededCall, HeededArrival, HeededOther}
-use Rattle.guarantees.specs.After.{fit_runs}
-use Rattle.guarantees.specs.Steps.{heeded, hands, hands_asked, gives_back, gives_back_asked}
+use Rattle.guarantees.specs.Runs.{Event}
+use Rattle.guarantees.specs.Started.{kind, same_or_other}
 
 -- ---- what is shown
 -- a call's answer fits the digits that it is printed with
@@ -105,7 +86,7 @@ unfolding parsed
 line_numbers l j = chosen (λ (q : List ℕ). get_or q j 0 < 2 ^ 64) _ _ _ (λ y. numbers_small l 8 2 j) (λ n. omega arith)
 
 -- a line that is a call has eight numbers
-eight : (line : List ℕ) (core : ℕ) → (reading line).0 ≡ Frame.Call core → length (reading line).1 ≡ 8
+pub eight : (line : List ℕ) (core : ℕ) → (reading line).0 ≡ Frame.Call core → length (reading line).1 ≡ 8
 unfolding parsed numbers
 eight line core is = ap length (parsed_call line [] (reading line).1 (reading line).0 refl (rw is))
 
@@ -138,12 +119,12 @@ line_small l = record { numbers = line_numbers l; eight = eight l; core = line_c
 
 -- ---- what is saved
 -- every saved number, and every start address and context, is below 2^64
-record Narrow (m : Machine) : Type 0 where
-  numbers : (c w j : ℕ) → saved m.saved c w j < 2 ^ 64
-  starts : (c : ℕ) → (power m.powers c).start < 2 ^ 64
-  contexts : (c : ℕ) → (power m.powers c).context < 2 ^ 64
+pub record Narrow (m : Machine) : Type 0 where
+  pub numbers : (c w j : ℕ) → saved m.saved c w j < 2 ^ 64
+  pub starts : (c : ℕ) → (power m.powers c).start < 2 ^ 64
+  pub contexts : (c : ℕ) → (power m.powers c).context < 2 ^ 64
 
-first_narrow : Narrow first
+pub first_narrow : Narrow first
 first_narrow =
     record {
       numbers = λ c w j. rw (saved_zeros c w j) (omega arith);
@@ -152,7 +133,7 @@ first_narrow =
     }
 
 -- an argument is no larger than its number
-argument_small : (p : Parts) (n : ℕ) → n < 2 ^ 64 → argument p n < 2 ^ 64
+pub argument_small : (p : Parts) (n : ℕ) → n < 2 ^ 64 → argument p n < 2 ^ 64
 unfolding argument
 argument_small p n h = chosen (λ (k : ℕ). k < 2 ^ 64) _ _ _ (λ y. omega arith) (λ y. h)
 
@@ -160,7 +141,7 @@ argument_small p n h = chosen (λ (k : ℕ). k < 2 ^ 64) _ _ _ (λ y. omega arit
 decides_formed : (w : Window) (l : List Mapping) (x : ℕ) (n : Mapping) → Every (Formed w) l → deciding l x ≡ some n → Formed w n
 decides_formed w l x n f k = every_among (Formed w) l n f (deciding_is l x n k).among
 
-led : (w : Window) (l : List Mapping) (x phys attr : ℕ) → Every (Formed w) l → lead_of l x ≡ Lead.To phys attr → (phys < 2 ^ 64) × (attr < 2 ^ 64)
+pub led : (w : Window) (l : List Mapping) (x phys attr : ℕ) → Every (Formed w) l → lead_of l x ≡ Lead.To phys attr → (phys < 2 ^ 64) × (attr < 2 ^ 64)
 unfolding lead_of leading
 led w l x phys attr f e = by_deciding (deciding l x) refl e
   where
@@ -173,7 +154,7 @@ led w l x phys attr f e = by_deciding (deciding l x) refl e
         (omega (arith, p), omega (arith, a, (decides_formed w l x n f k).attributes))
 
 -- a hand-over, a finish, or neither
-turn_cases : {P : Type 0} (d : Deed) → ((to : ℕ) → d ≡ HandOver to → P) → (d ≡ Finish → P) → (((to : ℕ) → d ≡ HandOver to → ⊥) → (d ≡ Finish → ⊥) → P) → P
+pub turn_cases : {P : Type 0} (d : Deed) → ((to : ℕ) → d ≡ HandOver to → P) → (d ≡ Finish → P) → (((to : ℕ) → d ≡ HandOver to → ⊥) → (d ≡ Finish → ⊥) → P) → P
 turn_cases Nothing h f n = n (λ to e. omega (arith, ap kind e)) (λ e. omega (arith, ap kind e))
 turn_cases (Move first count to) h f n = n (λ to e. omega (arith, ap kind e)) (λ e. omega (arith, ap kind e))
 turn_cases (Map m) h f n = n (λ to e. omega (arith, ap kind e)) (λ e. omega (arith, ap kind e))
@@ -182,191 +163,3 @@ turn_cases (Start core start context) h f n = n (λ to e. omega (arith, ap kind 
 turn_cases GoOff h f n = n (λ to e. omega (arith, ap kind e)) (λ e. omega (arith, ap kind e))
 turn_cases (HandOver to) h f n = h to refl
 turn_cases Finish h f n = f refl
-
--- ---- an accepted call
-module _ (m : Machine) (fit : Fit m) (e : Event) (narrow : Narrow m) (small : Small e) (core : ℕ) (is : e.0 ≡ Frame.Call core) (t : Taken (reply m e)) where
-  abbrev found : HeededCall m core e.1 (next m e) (reply m e)
-  found = (heeded m fit e).call core is (small.eight core is) t
-
-  -- what its answer writes
-  results_fit : (j : ℕ) → get_or (results_in (state_of m) core e.1) j 0 < 2 ^ 64
-  results_fit j = written_fits (called_by e.1) (answer_in (state_of m) core e.1) leads_fit count_fit j
-    where
-      leads_fit : (phys attr : ℕ) → answer_in (state_of m) core e.1 ≡ Leads phys attr → (phys < 2 ^ 64) × (attr < 2 ^ 64)
-      leads_fit phys attr a = which (asked_where (sight (state_of m) core) e.1 (leads_asked (sight (state_of m) core) e.1 phys attr a))
-        where
-          which : TellsLead (lead_of (sight (state_of m) core).inner.own (args_of (called_by e.1) e.1).x1) (judged_in (state_of m) core e.1) → (phys < 2 ^ 64) × (attr < 2 ^ 64)
-          which (leads p q l b) =
-              let z : Leads p q ≡ Leads phys attr = sym b ∙ a in
-              let y : p ≡ phys = cc in
-              let x : q ≡ attr = cc in
-              led (state_of m).site.window _ _ phys attr ((right m fit e core is t).sound (caller_of (state_of m) core)).formed (l ∙ rw (y, x))
-          which (leads_not r b) = let z : ◌≡◌ {A = ℕ} 0 1 = cc in absurd (omega arith)
-
-      count_fit : (n : ℕ) → answer_in (state_of m) core e.1 ≡ Count n → n < 2 ^ 64
-      count_fit n a =
-          let b = asked_count (sight (state_of m) core) e.1 (may m fit e core is t) (count_asked (sight (state_of m) core) e.1 n a) in
-          let z : Count n ≡ Count (on_count m.powers) = sym a ∙ b in
-          let y : n ≡ on_count m.powers = cc in
-          omega (arith, y, on_count_le m.powers)
-
-  -- the caller's numbers
-  own_narrow : (j : ℕ) → saved (next m e).saved core (running m core) j < 2 ^ 64
-  own_narrow j =
-      let n = length (results_in (state_of m) core e.1) in
-      either (ltb j n) (λ y. rw (found.results j (ltb-true j n y)) (results_fit j))
-      (λ y. either (ltb j 8) (λ z. rw (found.unlisted j (ltb-false j n y) (ltb-true j 8 z)) (small.numbers j))
-      (λ z. same_or_other j 8 (λ q. rw (q, found.start_stays) (narrow.numbers core (running m core) 8))
-      (λ q. rw (saved_no_number (next m e).saved core (running m core) j (omega (arith, ltb-false j 8 z))) (omega arith))))
-
-  -- Normal's, after a finish
-  returned_narrow : GivesBack m core e.1 → (j : ℕ) → saved (next m e).saved core normal j < 2 ^ 64
-  returned_narrow a j =
-      ⊎_elim
-      (λ (y : running m core ≡ secure).
-      either (ltb j 4) (λ z. rw (found.finished_secure j a y (ltb-true j 4 z)) (small.numbers (1 + j))) (λ z. rw (found.rest_secure j a y (ltb-false j 4 z)) (narrow.numbers core normal j)))
-      (λ (y : running m core ≡ realm).
-      either (ltb j 5) (λ z. rw (found.finished_realm j a y (ltb-true j 5 z)) (small.numbers (1 + j))) (λ z. rw (found.rest_realm j a y (ltb-false j 5 z)) (narrow.numbers core normal j)))
-      (found.finished_by a)
-
-  -- another world's
-  other_narrow : (w j : ℕ) → (running m core ≡ w → ⊥) → saved (next m e).saved core w j < 2 ^ 64
-  other_narrow w j n =
-      turn_cases (deed_in (state_of m) core e.1)
-      (λ to d. let a = hands_asked m fit e core is t to d in
-      same_or_other to w
-      (λ q. rw (← q) (either (ltb j 8) (λ y. rw (found.handed to j a (ltb-true j 8 y)) (small.numbers j)) (λ y. rw (found.handed_rest to j a (ltb-false j 8 y)) (narrow.numbers core to j))))
-      (λ q. rw (found.handed_others to w j a n q) (narrow.numbers core w j)))
-      (λ d. let a = gives_back_asked m fit e core is t d in
-      same_or_other normal w
-      (λ q. rw (← q) (returned_narrow a j))
-      (λ q. rw (found.finished_others w j a n q) (narrow.numbers core w j)))
-      (λ h f. rw (found.other_worlds w j n (λ to a. h to (hands m fit e core is t to a)) (λ a. f (gives_back m fit e core is t a))) (narrow.numbers core w j))
-
-  call_powers : (c : ℕ) → ((power (next m e).powers c).start < 2 ^ 64) × ((power (next m e).powers c).context < 2 ^ 64)
-  unfolding args_of
-  call_powers c =
-      let r = right m fit e core is t in
-      let was : ((power m.powers c).start < 2 ^ 64) × ((power m.powers c).context < 2 ^ 64) = (narrow.starts c, narrow.contexts c) in
-      rw (powers_are m fit e core is t) (
-      power_cases (deed_in (state_of m) core e.1)
-      (λ k a x d. same_or_other c k
-      (λ z. let v = called_for (sight (state_of m) core) e.1 (Start k a x) (λ n. omega (arith, ap kind n)) d in
-      rw (z, power_started (state_of m) core e.1 k a x d r.whole.powers_whole r.few_cores, v.so.1.0.1.0, v.so.1.0.1.1)
-      (argument_small (called_by e.1) _ (small.numbers 2), argument_small (called_by e.1) _ (small.numbers 3)))
-      (λ n. rw (power_spared (state_of m) core e.1 c (λ b y q. n (let p : Start c b y ≡ Start k a x = sym q ∙ d in cc)) (λ q. absurd (omega (arith, ap kind (sym d ∙ q))))) was))
-      (λ d. same_or_other c core
-      (λ z. rw (z, power_off (state_of m) core e.1 d r.whole.powers_whole (inside m fit e core is t) (performs m fit e core is t).on) (narrow.starts core, narrow.contexts core))
-      (λ n. rw (power_spared (state_of m) core e.1 c (λ b y q. omega (arith, ap kind (sym q ∙ d))) (λ q. n)) was))
-      (λ a b. rw (power_spared (state_of m) core e.1 c (λ p y q. a c p y q) (λ q. absurd (b q))) was))
-
-  call_narrow : Narrow (next m e)
-  call_narrow =
-      record {
-        numbers = λ c w j.
-            same_or_other core c
-            (λ z. rw (← z) (same_or_other (running m core) w (λ y. rw (← y) (own_narrow j)) (λ n. other_narrow w j n)))
-            (λ n. rw (found.other_cores c w j n) (narrow.numbers c w j));
-        starts = λ c. (call_powers c).0;
-        contexts = λ c. (call_powers c).1;
-      }
-
-  -- what it shows
-  call_fits : Narrow (next m e) → Fits (reply m e)
-  call_fits after =
-      either (is_on (power (next m e).powers core))
-      (λ y. rw (found.shown_if_on y) ((omega (arith, inside m fit e core is t), world_small y), ((after.numbers core _ 0, after.numbers core _ 1), (after.numbers core _ 2, after.numbers core _ 3))))
-      (λ n. rw (found.shown_off n) ((omega (arith, inside m fit e core is t), omega arith), ((after.numbers core normal 0, after.numbers core normal 1), (after.numbers core normal 2, after.numbers core normal 3))))
-    where
-      world_small : is_on (power (next m e).powers core) ≡ true → running (next m e) core < 256
-      world_small y =
-          ⊎_elim (λ (k : running (next m e) core ≡ normal). omega arith)
-          (λ (k : Takes (running (next m e) core)). ⊎_elim (λ (k : running (next m e) core ≡ secure). omega arith) (λ (k : running (next m e) core ≡ realm). omega arith) k)
-          (fit_runs (next m e) (fit_next m e fit) core y)
-
--- ---- any line
-module _ (m : Machine) (fit : Fit m) (e : Event) (narrow : Narrow m) (small : Small e) where
-  arrival_narrow : (core : ℕ) → HeededArrival m core (next m e) → Narrow (next m e)
-  arrival_narrow core a =
-      record {
-        numbers = λ c w j.
-            same_or_other core c
-            (λ y. same_or_other normal w (λ z. rw (← y, ← z) (normal_narrow j)) (λ n. rw (a.other_numbers c w j (λ q. n)) (narrow.numbers c w j)))
-            (λ n. rw (a.other_numbers c w j (λ q z. n q)) (narrow.numbers c w j));
-        starts = λ c. same_or_other c core (λ z. rw (z, a.core_is_on) (narrow.starts core)) (λ n. rw (a.other_power c n) (narrow.starts c));
-        contexts = λ c. same_or_other c core (λ z. rw (z, a.core_is_on) (narrow.contexts core)) (λ n. rw (a.other_power c n) (narrow.contexts c));
-      }
-    where
-      normal_narrow : (j : ℕ) → saved (next m e).saved core normal j < 2 ^ 64
-      normal_narrow j =
-          same_or_other j 0 (λ z. rw (z, a.context) (narrow.contexts core))
-          (λ n. either (ltb j 8) (λ y. rw (a.zeros j (omega arith) (ltb-true j 8 y)) (omega arith))
-          (λ y. same_or_other j 8 (λ z. rw (z, a.start) (narrow.starts core))
-          (λ k. rw (saved_no_number (next m e).saved core normal j (omega (arith, ltb-false j 8 y))) (omega arith))))
-
-  other_line : HeededOther m (next m e) → Narrow (next m e)
-  other_line o =
-      record {
-        numbers = λ c w j. rw o.numbers_stay (narrow.numbers c w j);
-        starts = λ c. rw o.power_stays (narrow.starts c);
-        contexts = λ c. rw o.power_stays (narrow.contexts c);
-      }
-
-  -- a line that is answered by a status
-  told_narrow : (why : Status) → reply m e ≡ Told why → Narrow (next m e)
-  told_narrow why k = by_status why k
-    where
-      same : (next m e ≡ m) → Narrow (next m e)
-      same q = rw q narrow
-
-      by_frame : (f : Frame) → e.0 ≡ f → reply m e ≡ Told Accepted → Narrow (next m e)
-      by_frame (Frame.Arrival core) is q = arrival_narrow core ((heeded m fit e).arrival core is q)
-      by_frame (Frame.Call core) is q = absurd ((heeded m fit e).call_told core is q)
-      by_frame (Frame.Site base pages count) is q = other_line ((heeded m fit e).other (λ c z. omega (arith, ap byte (sym is ∙ z))) (λ c z. omega (arith, ap byte (sym is ∙ z))))
-      by_frame (Frame.Entry lowest last type number) is q = other_line ((heeded m fit e).other (λ c z. omega (arith, ap byte (sym is ∙ z))) (λ c z. omega (arith, ap byte (sym is ∙ z))))
-      by_frame (Frame.Name lowest count to) is q = other_line ((heeded m fit e).other (λ c z. omega (arith, ap byte (sym is ∙ z))) (λ c z. omega (arith, ap byte (sym is ∙ z))))
-      by_frame (Frame.Refused r) is q = other_line ((heeded m fit e).other (λ c z. omega (arith, ap byte (sym is ∙ z))) (λ c z. omega (arith, ap byte (sym is ∙ z))))
-
-      by_status : (why : Status) → reply m e ≡ Told why → Narrow (next m e)
-      by_status Accepted q = by_frame e.0 refl q
-      by_status NoHex q = same ((heeded m fit e).refused_frame NoHex q (λ z. omega (arith, ap status_byte z)))
-      by_status Unknown q = same ((heeded m fit e).refused_frame Unknown q (λ z. omega (arith, ap status_byte z)))
-      by_status Misplaced q = same ((heeded m fit e).refused_frame Misplaced q (λ z. omega (arith, ap status_byte z)))
-      by_status OutOfRange q = same ((heeded m fit e).refused_frame OutOfRange q (λ z. omega (arith, ap status_byte z)))
-      by_status Clash q = same ((heeded m fit e).refused_frame Clash q (λ z. omega (arith, ap status_byte z)))
-
-  -- a line that is answered as a call is one
-  shown_call : {P : Type 0} → Taken (reply m e) → ((core : ℕ) → e.0 ≡ Frame.Call core → P) → P
-  shown_call {P} t f = by_frame e.0 refl
-    where
-      not_call : {g : Frame} → e.0 ≡ g → (byte g ≡ 0x20 → ⊥) → ⊥
-      not_call is n = (heeded m fit e).other_told (λ c z. n (ap byte (sym is ∙ z))) t
-
-      by_frame : (g : Frame) → e.0 ≡ g → P
-      by_frame (Frame.Call core) is = f core is
-      by_frame (Frame.Arrival core) is = absurd (not_call is (λ z. omega arith))
-      by_frame (Frame.Site base pages count) is = absurd (not_call is (λ z. omega arith))
-      by_frame (Frame.Entry lowest last type number) is = absurd (not_call is (λ z. omega arith))
-      by_frame (Frame.Name lowest count to) is = absurd (not_call is (λ z. omega arith))
-      by_frame (Frame.Refused r) is = absurd (not_call is (λ z. omega arith))
-
-  line_fits : Narrow (next m e) × Fits (reply m e)
-  line_fits = by_reply (reply m e) refl
-    where
-      by_reply : (r : Reply) → reply m e ≡ r → Narrow (next m e) × Fits r
-      by_reply (Told why) k = (told_narrow why k, tt)
-      by_reply (Called c world x) k =
-          let t : Taken (reply m e) = λ why q. let y : Told why ≡ Called c world x = sym q ∙ k in let z : ◌≡◌ {A = ℕ} 0 1 = cc in omega arith in
-          shown_call t (λ core is. let n = call_narrow m fit e narrow small core is t in (n, rw k at (call_fits m fit e narrow small core is t n)))
-
--- ---- any run over lines
-fits_after : (lines : List (List ℕ)) (m : Machine) → Fit m → Narrow m → AllFit (replies m (map reading lines))
-unfolding AllFit replies
-fits_after [] m fit narrow = tt
-fits_after (l ∷ rest) m fit narrow =
-    let e = reading l in
-    let f = line_fits m fit e narrow (line_small l) in
-    (f.1, fits_after rest (next m e) (fit_next m e fit) f.0)
-
-pub fits_first : (lines : List (List ℕ)) → AllFit (replies first (map reading lines))
-fits_first lines = fits_after lines first first_fit first_narrow

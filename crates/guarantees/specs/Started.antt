@@ -1,9 +1,9 @@
 -- What the last granted start of a core gave it, in a run; and that a core that is pending after the run has just this.
-use Rattle.std.specs.Prelude.{◌≡◌, true, false, [], ◌∷◌, ◌++◌, ℕ, eqb, get_or}
+use Rattle.std.specs.Prelude.{◌≡◌, false, [], ◌∷◌, ◌++◌, ℕ, eqb, get_or}
 use Rattle.std.proofs.Math.Path.{refl, sym, ap, subst}
 use Rattle.std.proofs.Common.{◌∙◌, arith, eqb-true}
 use Rattle.std.proofs.lemmas.Bool.{eqb-false}
-use Rattle.rules.specs.Choice.{either, yes_or_no}
+use Rattle.rules.specs.Choice.{either}
 use Rattle.identifiers.specs.Identifier.{argument}
 use Rattle.cores.specs.Power.{power_of, pending, on, is_pending}
 use Rattle.cores.specs.Cores.{power, first_power_zero, first_power_other}
@@ -27,7 +27,7 @@ use Rattle.showing.specs.declared.Reply.{Reply}
 use Rattle.showing.specs.declared.Reply.TheVariants.{Told}
 use Rattle.guarantees.specs.Runs.{Event, Events, next, reply, Taken, ran}
 use Rattle.guarantees.specs.Named.{AsksStart, ToldZero}
-use Rattle.guarantees.specs.Fit.{Fit, fit_next, first_fit}
+use Rattle.guarantees.specs.Fit.{Fit}
 use Rattle.guarantees.specs.Accepted.{partly, performs, right, inside, powers_are, done_told, told_done}
 
 -- ---- what a reader takes to be the last granted start
@@ -88,7 +88,7 @@ starts_deed m fit e target start context t =
     (told_done m fit e t.core t.is_call t.accepted (λ (d : Deed). d ≡ Start _ _ _) (asked_start (sight (state_of m) t.core) e.1 t.asks) t.granted)
 
 -- what a line makes of a core's power: a granted start gives it; or it stays, with no such start; or the core is not pending
-data Became (m : Machine) (e : Event) (target : ℕ) (o : Machine) : Type 0 where
+pub data Became (m : Machine) (e : Event) (target : ℕ) (o : Machine) : Type 0 where
   started : (start context : ℕ) → Starts m e target start context → power o.powers target ≡ power_of pending start context → Became m e target o
   kept : ((start context : ℕ) → Starts m e target start context → ⊥) → power o.powers target ≡ power m.powers target → Became m e target o
   gone : is_pending (power o.powers target) ≡ false → Became m e target o
@@ -133,7 +133,7 @@ module _ (m : Machine) (fit : Fit m) (e : Event) (target : ℕ) where
       spared a b = rw (powers_are m fit e core is t) (power_spared (state_of m) core e.1 target a b)
 
   -- any line
-  became : Became m e target (next m e)
+  pub became : Became m e target (next m e)
   unfolding performed is_pending
   became =
       framed_by m e.1 (λ (g : Frame) (o : Machine × Reply). e.0 ≡ g → framed m e.0 e.1 ≡ o → Became m e target o.0)
@@ -154,40 +154,11 @@ module _ (m : Machine) (fit : Fit m) (e : Event) (target : ℕ) where
 
 -- ---- over runs
 -- a pending core's start address and context are those of its last granted start; or it had them before, and there was none
-data Pended (m : Machine) (run : Events) (target : ℕ) (p : Power) : Type 0 where
+pub data Pended (m : Machine) (run : Events) (target : ℕ) (p : Power) : Type 0 where
   by_start : LastStart m run target p.start p.context → Pended m run target p
   as_before : Unstarted m run target → power m.powers target ≡ p → Pended m run target p
 
-pended : (target : ℕ) (run : Events) (m : Machine) → Fit m → is_pending (power (ran m run).powers target) ≡ true → Pended m run target (power (ran m run).powers target)
-unfolding ran Unstarted is_pending
-pended target [] m fit y = as_before tt refl
-pended target (e ∷ rest) m fit y = longer (became m fit e target) (pended target rest (next m e) (fit_next m e fit) y)
-  where
-    p : Power
-    p = power (ran (next m e) rest).powers target
-
-    longer : Became m e target (next m e) → Pended (next m e) rest target p → Pended m (e ∷ rest) target p
-    longer b (by_start l) =
-        by_start (record { before = e ∷ l.before; line = l.line; later = l.later; stands = ap (λ (q : Events). e ∷ q) l.stands; granted = l.granted; last = l.last })
-    longer (started start context t w) (as_before u h) =
-        let q : p ≡ power_of pending start context = sym h ∙ w in
-        by_start (rw q (record { before = []; line = e; later = rest; stands = refl; granted = t; last = u }))
-    longer (kept n w) (as_before u h) = as_before (n, u) (sym w ∙ h)
-    longer (gone w) (as_before u h) = absurd (yes_or_no _ y (rw h at w))
-
 -- No core is pending before the first line.
-none_pending : (core : ℕ) → is_pending (power first.powers core) ≡ false
+pub none_pending : (core : ℕ) → is_pending (power first.powers core) ≡ false
 unfolding is_pending
 none_pending core = same_or_other core 0 (λ e. rw (e, first_power_zero)) (λ n. rw (first_power_other core n))
-
--- A core that is pending after a run has the address and the context that its last granted start gave.
-pub pending_started : (target : ℕ) (run : Events) → is_pending (power (ran first run).powers target) ≡ true
-    → LastStart first run target (power (ran first run).powers target).start (power (ran first run).powers target).context
-pending_started target run y = which (pended target run first first_fit y)
-  where
-    p : Power
-    p = power (ran first run).powers target
-
-    which : Pended first run target p → LastStart first run target p.start p.context
-    which (by_start l) = l
-    which (as_before u h) = absurd (yes_or_no _ y (rw h at (none_pending target)))

@@ -1,10 +1,10 @@
 -- What is carried from one read to the next, whatever is kept and whatever a line means: part by part, after a read and at the end of the input.
-use Rattle.std.specs.Prelude.{◌≡◌, refl, ℕ, ◌≤◌, ◌<◌, take}
+use Rattle.std.specs.Prelude.{◌≡◌, refl, ℕ, ◌≤◌, take}
 use Rattle.std.proofs.Math.Path.{ap}
-use Rattle.std.proofs.Common.{◌∙◌, arith, lt-ltb, eq-eqb, ne_eqb}
+use Rattle.std.proofs.Common.{◌∙◌, arith, ne_eqb}
 use mathlib.Core.List.{List, [], ◌∷◌}
 use Rattle.std.proofs.Math.ListN.{length, length-take}
-use Rattle.rules.specs.Choice.{pick_yes, pick_no, both_true, left_false}
+use Rattle.rules.specs.Choice.{pick_no, left_false}
 use Rattle.lines.specs.Lines.{Unbroken}
 use Rattle.lines.specs.Meant.{meant, meant_closed}
 use Rattle.lines.specs.Parts.{complete, unfinished}
@@ -17,11 +17,6 @@ use Rattle.inputs.specs.Waiting.{ended, heard, front, taken}
 pub heard_more : (buf : List ℕ) (kept n : ℕ) → (n ≡ kept → ⊥) → heard buf kept n ≡ take n buf
 unfolding heard
 heard_more buf kept n d = pick_no _ _ _ (left_false _ _ (ne_eqb n kept d))
-
--- at the end of the input: what waits, as a line
-pub heard_end : (buf : List ℕ) (kept n : ℕ) → n ≡ kept → kept < length buf → heard buf kept n ≡ ended (take kept buf)
-unfolding heard
-heard_end buf kept n z h = pick_yes _ _ _ (both_true _ _ (eq-eqb n kept z) (lt-ltb n (length buf) (omega arith))) ∙ rw z
 
 -- the bytes that wait become a line with its newline
 pub ended_complete : (l : List ℕ) → complete (ended l) ≡ ended l

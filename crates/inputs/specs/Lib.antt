@@ -5,11 +5,10 @@ pub mod Waiting
 pub mod Carried
 pub mod Closing
 pub mod Feeding
-pub mod Loop
 pub mod Run
 pub mod Parts
 pub mod Fed
 pub mod Whole
 pub mod Handed
-pub mod Served
 pub mod Monitor
+pub mod Loop

@@ -1,7 +1,7 @@
 -- The loop of the monitor: the machine is what is kept, and a line means the frame that it is read as.
-use Rattle.std.specs.Prelude.{◌≡◌, Bool, true, List, ℕ, ◌≤◌, length, take}
-use Rattle.std.proofs.Common.{ap, arith}
-use Rattle.lines.specs.Input.{reading, reading_blind}
+use Rattle.std.specs.Prelude.{◌≡◌, Bool, true, List, ℕ}
+use Rattle.std.proofs.Common.{ap}
+use Rattle.lines.specs.Input.{reading}
 use Rattle.ledger.specs.Ledger.{empty}
 use Rattle.registers.specs.Registers.{zeros}
 use Rattle.cores.specs.Cores.{first_powers, first_turns}
@@ -11,8 +11,6 @@ use Rattle.mapping.specs.Lists.{unmapped}
 use Rattle.setup.specs.Table.{unset}
 use Rattle.frames.specs.Frames.{Machine, machine, first}
 use Rattle.inputs.specs.Run.{left_by, turned}
-use Rattle.inputs.specs.Waiting.{heard, front, served}
-use Rattle.inputs.specs.Handed.{handed}
 use Rattle.inputs.specs.Loop as Loop
 
 -- a machine that an input leaves
@@ -38,14 +36,3 @@ ran_left s n l o r p t k whole s' n' l' o' r' p' t' k' ran y a b c d e f g h =
 
 pub serving_none : (m : Machine) (s : List ℕ) → Serving m m s 0
 serving_none = Loop.serving_none turned reading
-
--- one read more, which left what waits where it was
-module _ (m₀ m : Machine) (s₀ : List ℕ) (kept : ℕ) (v : Serving m₀ m s₀ kept) (s : List ℕ) (n : ℕ) (same : take kept s ≡ take kept s₀)
-    (m' : Machine) (put : ℕ) (out' : List ℕ) (kept' : ℕ) (s' : List ℕ) (e : (m', (front put out', front kept' s')) ≡ served m (heard s kept n)) where
-  -- and brought something
-  pub serving_on : kept ≤ n → (n ≡ kept → ⊥) → Serving m₀ m' s' kept'
-  serving_on = Loop.serving_on turned reading m₀ m s₀ kept v s n same m' kept' s' (handed m m' (heard s kept n) put out' kept' s' e).carries
-
-  -- or nothing: the input has ended
-  pub served_all : n ≡ kept → 65536 ≡ length s → Ran m₀ m'
-  served_all z h = Loop.served_all turned reading m₀ m s₀ kept v s n same m' kept' s' (handed m m' (heard s kept n) put out' kept' s' e).carries reading_blind z (omega arith)

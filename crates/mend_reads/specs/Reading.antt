@@ -18,7 +18,8 @@ use Rattle.mapping.specs.Lists.{unmapped}
 use Rattle.setup.specs.Table.{unset}
 use Rattle.frames.specs.Frames.{Machine, machine, first}
 use Rattle.inputs.specs.Folds.{left}
-use Rattle.inputs.specs.Feeding.{feeding, feeding_end, feeding_stop, feeding_line, feeds}
+use Rattle.inputs.specs.Feeding.{feeding}
+use Rattle.inputs.proofs.Feeding.{feeding_end, feeding_stop, feeding_line, feeds}
 use Rattle.inputs.specs.Waiting.{heard, front, taken}
 use Rattle.inputs.specs.Loop as Loop
 use Rattle.sheets.specs.Sheet.{Sheet}

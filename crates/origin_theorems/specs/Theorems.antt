@@ -21,7 +21,8 @@ use Rattle.tracing.specs.Traced.{Kept, start, noted, after_line}
 use Rattle.guarantees.specs.Runs.{Event, Events, byte, next, ran, always}
 use Rattle.guarantees.specs.Fit.{Fit, first_fit, fit_next}
 use Rattle.guarantees.specs.Named.{Unmoved, Unnamed, LastTransfer, NamedBy}
-use Rattle.guarantees.specs.Owners.{Gives, moves, names, Outcome, gave, kept, outcome, transfer_ends, naming_is, ended_stays, ended_unnamed, marked_unnamed, unmoved_later, named_owner}
+use Rattle.guarantees.specs.Owners.{Gives, moves, names, Outcome, gave, kept, transfer_ends, naming_is}
+use Rattle.guarantees.proofs.Owners.{outcome, ended_stays, ended_unnamed, marked_unnamed, unmoved_later, named_owner}
 use Rattle.origin_theorems.specs.Statements.{NamedAt, by_transfer, by_set_up, as_before, is_named, OriginsAre}
 use Rattle.origin_theorems.specs.Marked.{gives_marks, none_marks}
 

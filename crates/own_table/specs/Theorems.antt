@@ -9,7 +9,7 @@ use Rattle.showing.specs.declared.Reply.{Reply}
 use Rattle.guarantees.specs.Runs.{Events, Follows, by_following}
 use Rattle.guarantees.specs.Fit.{ran_fit}
 use Rattle.guarantees.specs.Statements.{window, owner_in}
-use Rattle.guarantees.specs.Theorems.{any_run}
+use Rattle.guarantees.proofs.Theorems.{any_run}
 use Rattle.conversions.specs.Conversions.{unpacked}
 use Rattle.round_trips.specs.Statements.{Room, Granules, Shown}
 use Rattle.round_trips.specs.Theorems.{any_shown}

@@ -27,7 +27,7 @@ use Rattle.tallies.specs.Rows.{row_of, rows, row_low, row_power, row_version, ro
 use Rattle.counting.specs.Counted.{Line, Counted, counted_one, counted_of, counted_in, counted}
 use Rattle.guarantees.specs.Fit.{Fit, first_fit, fit_next}
 use Rattle.guarantees.specs.Entries.{is_caller}
-use Rattle.guarantees.specs.After.{fit_runs}
+use Rattle.guarantees.proofs.After.{fit_runs}
 use Rattle.report_theorems.specs.Lists.{Each, Among, each_append, among_each}
 use Rattle.report_theorems.specs.Statements.{refusals, Answers, few, power_version, version, short, long, Possible}
 use Rattle.report_theorems.specs.ByFrame.{counted_by}

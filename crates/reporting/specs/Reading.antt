@@ -19,10 +19,12 @@ use Rattle.mapping.specs.Lists.{unmapped}
 use Rattle.setup.specs.Table.{unset}
 use Rattle.frames.specs.Frames.{Machine, machine, first}
 use Rattle.inputs.specs.Folds.{left}
-use Rattle.inputs.specs.Feeding.{feeding, feeding_end, feeding_stop, feeding_line, feeds}
+use Rattle.inputs.specs.Feeding.{feeding}
+use Rattle.inputs.proofs.Feeding.{feeding_end, feeding_stop, feeding_line, feeds}
 use Rattle.inputs.specs.Waiting.{heard, front, taken}
 use Rattle.inputs.specs.Carried.{carried}
 use Rattle.inputs.specs.Loop as Loop
+use Rattle.inputs.proofs.Loop as Looping
 use Rattle.counting.specs.Counted.{apart, meaning, counted, Kept, noted_all, after_line}
 use Rattle.counting.specs.Laws.{meaning_blind, line_idle, kept_noted}
 
@@ -70,11 +72,11 @@ module _ (k₀ k : Kept) (s₀ : List ℕ) (kept : ℕ) (v : Serving k₀ k s₀
     (k' : Kept) (kept' : ℕ) (s' : List ℕ) (e : (k', front kept' s') ≡ taken after_line meaning k (heard s kept n)) where
   -- and brought something
   pub serving_on : kept ≤ n → (n ≡ kept → ⊥) → Serving k₀ k' s' kept'
-  serving_on = Loop.serving_on after_line meaning k₀ k s₀ kept v s n same k' kept' s' (carried after_line meaning k (heard s kept n) k' kept' s' e)
+  serving_on = Looping.serving_on after_line meaning k₀ k s₀ kept v s n same k' kept' s' (carried after_line meaning k (heard s kept n) k' kept' s' e)
 
   -- or nothing: the input has ended
   pub served_all : n ≡ kept → 65536 ≡ length s → Ran k₀ k'
-  served_all z h = Loop.served_all after_line meaning k₀ k s₀ kept v s n same k' kept' s' (carried after_line meaning k (heard s kept n) k' kept' s' e) meaning_blind z (omega arith)
+  served_all z h = Looping.served_all after_line meaning k₀ k s₀ kept v s n same k' kept' s' (carried after_line meaning k (heard s kept n) k' kept' s' e) meaning_blind z (omega arith)
 
 -- ---- from tables as they are before the first frame
 -- a table with the calls noted that are counted of an input

@@ -16,7 +16,7 @@ use Rattle.descriptors.specs.Numbers.{span}
 use Rattle.entries.specs.Entries.{block, whole, deeper}
 use Rattle.layout.specs.Rows.{total}
 use Rattle.layout.specs.Layout.{part, tables, below, below_at, next}
-use Rattle.layout.specs.Laws.{tables_are}
+use Rattle.layout.proofs.Laws.{tables_are}
 
 -- ---- totals
 total_same : (f g : ℕ → ℕ) → ((i : ℕ) → f i ≡ g i) → (n : ℕ) → total f n ≡ total g n

@@ -19,7 +19,7 @@ use Rattle.walks.specs.Walk.{walked, walked_low, walked_high}
 use Rattle.entries.specs.Entries.{whole, deeper, entry}
 use Rattle.layout.specs.Rows.{Stands, total_most, stands_laid, past_stays}
 use Rattle.layout.specs.Layout.{part, tables, below, below_at, entry_at, tree}
-use Rattle.layout.specs.Laws.{tables_are, length_tree, few_tables}
+use Rattle.layout.proofs.Laws.{tables_are, length_tree, few_tables}
 use Rattle.building.specs.Built.{status, built}
 use Rattle.building.specs.declared.Built.{Built}
 use Rattle.building.specs.declared.Built.TheVariants.{Tables, NoRoom}

@@ -29,7 +29,7 @@ use Rattle.inputs.specs.Run.{left_by, left_reached}
 use Rattle.guarantees.specs.Runs.{Event, Events, Taken, Allowed, Follows, follows_is, follows_ran}
 use Rattle.guarantees.specs.Fit.{Fit, ran_fit}
 use Rattle.guarantees.specs.Statements.{window, mapped, caller, arg, Is, denied, x, HeededCall}
-use Rattle.guarantees.specs.Theorems.{any_line}
+use Rattle.guarantees.proofs.Theorems.{any_line}
 use Rattle.walks.specs.Walk.{walked}
 use Rattle.building.specs.Built.{status}
 use Rattle.layout.specs.Layout.{tables}

@@ -1,6 +1,6 @@
 -- There are such runs: a board is set up, and Normal hands core 0 over to Realm; in the other run Realm then asks to map a page; Realm finishes in both. A pair in which the mapping is granted is run by the programs `unseen_without_run` and `unseen_with_run`.
 use Rattle.std.specs.Prelude.{◌≡◌, refl, List, [], ◌∷◌}
-use Rattle.std.proofs.Common.{sym, ap, subst, ◌∙◌, inl, ⊎_elim, arith}
+use Rattle.std.proofs.Common.{sym, ap, subst, ◌∙◌, ⊎_elim, arith}
 use Rattle.rules.specs.Choice.{pick}
 use Rattle.rules.specs.Tests.{sieve}
 use Rattle.rules.specs.declared.Entered.TheVariants as Entered
@@ -24,10 +24,10 @@ use Rattle.setup.specs.Frames.{fits, sited, untimely, entering}
 use Rattle.frames.specs.Frames.{Machine, machine, first, framed}
 use Rattle.guarantees.specs.Runs.{Event, Events, next, reply, Taken, ran}
 use Rattle.guarantees.specs.Fit.{ran_fit}
-use Rattle.guarantees.specs.Steps.{heeded}
+use Rattle.guarantees.proofs.Steps.{heeded}
 use Rattle.guarantees.specs.Statements.{running}
 use Rattle.guarantees.specs.Theorems.{normal_first}
-use Rattle.unseen.specs.Statements.{OwnCall, Evenly, Woven, Fair}
+use Rattle.unseen.specs.Statements.{Evenly, Woven}
 use Rattle.unseen.specs.Statements.Woven.{common, other}
 use Rattle.unseen.specs.Steps.{call_taken}
 
@@ -70,25 +70,17 @@ accepted =
     subst (λ (m : Machine). Taken (reply m hand_over)) (sym start_is)
     (call_taken _ 0 hand_over.1 (rw fixed_ready) (rw fixed_cores) (rw first_power_zero))
 
-realm_runs : running (next start hand_over) 0 ≡ 3
+pub realm_runs : running (next start hand_over) 0 ≡ 3
 unfolding identifier_of parts key_of admitted pick
 realm_runs =
     ((heeded start (ran_fit set_up) hand_over).call 0 refl refl accepted).handed_runs 3
     (ap (λ (m : Machine). running m 0) start_is ∙ normal_first 0 (omega arith), record { passes = refl; number = 2; reached = reaches; so = to_realm 0xC4000150 (omega arith) (omega arith) })
 
 -- ---- the lines are fair
-even_hand_over : (m n : Machine) → Evenly m n hand_over
+pub even_hand_over : (m n : Machine) → Evenly m n hand_over
 unfolding identifier_of key_of pick
 even_hand_over m n core is t r = ⊎_elim (λ e. absurd (omega arith)) (λ e. absurd (omega arith))
 
-even_finish : (m n : Machine) → Evenly m n finish
+pub even_finish : (m n : Machine) → Evenly m n finish
 unfolding identifier_of key_of pick
 even_finish m n core is t r = ⊎_elim (λ e. absurd (omega arith)) (λ e. absurd (omega arith))
-
-maps : OwnCall (next start hand_over) map_one
-unfolding identifier_of key_of pick
-maps = record { core = 0; is_call = refl; by_realm = realm_runs; asks = inl refl }
-
-pub such_runs : Fair start start both
-unfolding Fair
-such_runs = (even_hand_over start start, (maps, (even_finish (next start hand_over) (next (next start hand_over) map_one), tt)))

@@ -13,7 +13,7 @@ use Rattle.descriptors.specs.Numbers.{span, base_of}
 use Rattle.descriptors.specs.Meaning.{is_table}
 use Rattle.layout.specs.Rows.{Stands}
 use Rattle.layout.specs.Layout.{part, tables, below, next, tree}
-use Rattle.layout.specs.Laws.{length_tree, few_tables}
+use Rattle.layout.proofs.Laws.{length_tree, few_tables}
 use Rattle.building.specs.Built.{status}
 use Rattle.tables_right.specs.Theorems.{said, left, refused_where, length_stays, tables_stand, leads_alike}
 use Rattle.vetting.specs.Pass.{vetted}

@@ -16,7 +16,7 @@ use Rattle.descriptors.specs.Meaning.{is_table, reserved}
 use Rattle.walks.specs.Walk.{entry_of}
 use Rattle.layout.specs.Rows.{total_within, Stands}
 use Rattle.layout.specs.Layout.{part, tables, below, below_at, next, tree}
-use Rattle.layout.specs.Laws.{tables_are}
+use Rattle.layout.proofs.Laws.{tables_are}
 use Rattle.tables_right.specs.Numbers.{table_means}
 use Rattle.vetting.specs.Rooms.{region_is, part_aligned, entry_ends}
 use Rattle.vet_theorems.specs.Tree.{Itself, From, Before, Lies, from_lies, none_before}

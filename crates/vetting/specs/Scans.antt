@@ -3,7 +3,6 @@ use Rattle.std.specs.Prelude.{◌≡◌, Bool, true, false, List, ltb, length, g
 use Rattle.std.proofs.Math.Path.{refl, sym, ap}
 use Rattle.std.proofs.Common.{◌∙◌, lt-ltb, le-ltb}
 use Prim.Native.Nat.{ℕ, zero, suc, ◌+◌, ◌-◌, ◌/◌, ◌≤◌, ◌<◌}
-use Rattle.std.proofs.Math.Numerals.{add-one}
 use native.Mathlib.Omega.{arith}
 use Rattle.rules.specs.Sizes.{page_size}
 use Rattle.rules.specs.Choice.{pick, picked, passed, pick_no, yes_or_no}
@@ -33,35 +32,13 @@ module _ (v : Vetted) where
 
 pub ruleset refusing = (refused_no, refused_yes)
 
--- ---- the loop over a row
-refused_is : (v w : Vetted) → is_refused v ≡ true → or_else v w ≡ v
-unfolding is_refused or_else
-refused_is Accepted w h = let z : false ≡ true = h in absurd (yes_or_no false z refl)
-refused_is (Refused s x) w h = refl
-
-accepted_is : (v w : Vetted) → is_refused v ≡ false → or_else v w ≡ w
+pub accepted_is : (v w : Vetted) → is_refused v ≡ false → or_else v w ≡ w
 unfolding is_refused or_else
 accepted_is Accepted w h = refl
 accepted_is (Refused s x) w h = let z : true ≡ false = h in absurd (yes_or_no true refl z)
 
 pub scan_whole : (f : ℕ → Vetted) (n : ℕ) → scan f 0 n ≡ scan f 0 (n - 0)
 scan_whole f n = let z : n - 0 ≡ n = omega arith in rw z
-
-module _ (f : ℕ → Vetted) (i n : ℕ) (whole : Vetted) (inv : whole ≡ scan f i (n - i)) where
-  some_left : i < n → scan f i (n - i) ≡ or_else (f i) (scan f (i + 1) (n - (i + 1)))
-  unfolding scan
-  some_left h = let z : n - i ≡ suc (n - (i + 1)) = omega arith in ap (scan f i) z ∙ rw add-one
-
-  module _ (v : Vetted) (r : Bool) (h : i < n) (e : v ≡ f i) (g : r ≡ is_refused v) where
-    pub scan_stops : r ≡ true → v ≡ whole
-    scan_stops y = sym (inv ∙ some_left h ∙ rw (← e) (refused_is v _ (sym g ∙ y)))
-
-    pub scan_goes : r ≡ false → whole ≡ scan f (i + 1) (n - (i + 1))
-    scan_goes y = inv ∙ some_left h ∙ rw (← e) (accepted_is v _ (sym g ∙ y))
-
-  pub scan_ends : n ≤ i → Accepted ≡ whole
-  unfolding scan
-  scan_ends h = let z : n - i ≡ 0 = omega arith in sym (inv ∙ ap (scan f i) z)
 
 -- ---- an entry
 module _ (k e size : ℕ) (t : Bool) (f : t ≡ is_table k e) where

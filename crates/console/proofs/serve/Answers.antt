@@ -1,7 +1,8 @@
 use Rattle.std.proofs.Common.{rules}
 use Rattle.std.proofs.Math.Path.{refl}
 use Rattle.rules.specs.Choice.{yes_or_no}
-use Rattle.inputs.specs.Monitor.{serving_none, serving_on, served_all}
+use Rattle.inputs.specs.Monitor.{serving_none}
+use Rattle.inputs.proofs.Monitor.{serving_on, served_all}
 use Rattle.console.proofs.serve.Goals as goal
 
 pub loop-left-init : goal.loop-left-init

@@ -1,5 +1,6 @@
 use borrow.Author.Rules.{rules}
-use Rattle.lines.specs.Front.{moving_none, moving_more, front_order, front_past, front_done}
+use Rattle.lines.specs.Front.{moving_none, moving_more}
+use Rattle.lines.proofs.Front.{front_order, front_past, front_done}
 use Rattle.lines.proofs.to_front.Goals as goal
 
 pub returns-then-to-from : goal.returns-then-to-from

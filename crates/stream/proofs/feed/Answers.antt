@@ -1,7 +1,8 @@
 use borrow.Author.Rules.{rules}
 use mathlib.Core.Path.{refl, ◌∙◌}
 use Rattle.lines.specs.Input.{reads_on}
-use Rattle.inputs.specs.Fed.{stops, goes_on, ends_inside}
+use Rattle.inputs.specs.Fed.{ends_inside}
+use Rattle.inputs.proofs.Fed.{stops, goes_on}
 use Rattle.stream.proofs.feed.Goals as goal
 
 pub loop-at-init : goal.loop-at-init

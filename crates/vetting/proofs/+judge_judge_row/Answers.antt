@@ -2,7 +2,8 @@ use borrow.Author.Rules.{rules}
 use native.Mathlib.Omega.{arith}
 use Rattle.vetting.specs.Rooms.{room_of, part_of, part_ends}
 use Rattle.vetting.specs.Free.{free_none, free_on, free_here, free_next, free_accepted}
-use Rattle.vetting.specs.Scans.{judging, table_some, table_pos, scan_whole, scan_goes, scan_stops, scan_ends, entry_at}
+use Rattle.vetting.specs.Scans.{judging, table_some, table_pos, scan_whole, entry_at}
+use Rattle.vetting.proofs.Scans.{scan_goes, scan_stops, scan_ends}
 use Prim.Native.Nat.{◌<◌}
 use Rattle.vetting.proofs.+judge_judge_row.Goals as goal
 

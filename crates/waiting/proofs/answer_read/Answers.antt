@@ -1,7 +1,7 @@
 -- There is room for every answer, so one feed answers all the complete lines, and what it leaves has no newline.
 use borrow.Author.Rules.{rules}
 use Rattle.lines.specs.Close.{close_inside}
-use Rattle.inputs.specs.Served.{serves}
+use Rattle.inputs.proofs.Served.{serves}
 use Rattle.waiting.proofs.answer_read.Goals as goal
 
 pub slice_bounds-feed-end : goal.slice_bounds-feed-end

@@ -1,6 +1,6 @@
 -- The machine after any run: why each statement about it holds.
 use Rattle.std.proofs.Math.Path.{◌≡◌}
-use Rattle.std.specs.Prelude.{refl, false, [], ◌∷◌, ℕ, ◌-◌, ◌≤◌, ◌<◌, eqb, ltb, get_or}
+use Rattle.std.specs.Prelude.{refl, false, [], ◌∷◌, ℕ, ◌≤◌, ◌<◌, eqb, ltb, get_or}
 use Rattle.std.proofs.Common.{sym, ◌∙◌, inl}
 use Rattle.std.proofs.Math.Bool.{true}
 use native.Mathlib.Omega.{arith}
@@ -26,7 +26,7 @@ use Rattle.frames.specs.Frames.{Machine, first, state_of}
 use Rattle.frames.specs.Stays.{site_stays, settled}
 use Rattle.guarantees.specs.Runs.{Event, Events, next, ran, replies, replies_count, always}
 use Rattle.guarantees.specs.Fit.{Fit, fit_next}
-use Rattle.guarantees.specs.Owners.{owner_named, named_owner}
+use Rattle.guarantees.proofs.Owners.{owner_named, named_owner}
 use Rattle.guarantees.specs.Statements.{window, owner_in, mark_in, mapped, Guaranteed}
 
 -- ---- what a fit machine is, set up or not

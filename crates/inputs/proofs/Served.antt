@@ -9,9 +9,10 @@ use Rattle.lines.specs.Close.{closing, close_inside}
 use Rattle.frames.specs.Frames.{Machine}
 use Rattle.inputs.specs.Run.{printed, left_by}
 use Rattle.inputs.specs.Fed.{Stand, stand, fed}
-use Rattle.inputs.specs.Whole.{fed_whole, printed_fits}
+use Rattle.inputs.proofs.Whole.{fed_whole, printed_fits}
 use Rattle.inputs.specs.Waiting.{heard, front, sized, served}
-use Rattle.inputs.specs.Closing.{closed, moved_front}
+use Rattle.inputs.specs.Closing.{moved_front}
+use Rattle.inputs.proofs.Closing.{closed}
 
 pub serves : (m m' : Machine) (buf : List ℕ) (kept n end : ℕ) (b out out' : List ℕ) (used done kept' : ℕ) (b' : List ℕ)
     → (end, b) ≡ closing buf kept n → length b ≡ 65536 → length out ≡ 327751 → stand m' used done out' ≡ fed (part b 0 end) (stand m 0 0 out) → (kept', b') ≡ fronted b used end

@@ -1,0 +1,9 @@
+pub mod Carried
+pub mod Closing
+pub mod Fed
+pub mod Feeding
+pub mod Handed
+pub mod Loop
+pub mod Monitor
+pub mod Served
+pub mod Whole
