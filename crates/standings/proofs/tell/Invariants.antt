@@ -1,0 +1,11 @@
+-- Each pass writes a chunk, and behind what was written comes what is left.
+use Rattle.std.proofs.Common.{length}
+use Rattle.endings.specs.Rest.{lines_from}
+use Rattle.standings.specs.Written.{Telling}
+use Rattle.standings.proofs.tell.Given as goal
+
+abbrev pub invariant-loop : goal.invariant-loop
+invariant-loop g l = Telling l.lines l.setup l.owners l.origins l.powers l.turns l.lists l.initial.part l.initial.out l.part l.out
+
+abbrev pub decreases-loop : goal.decreases-loop
+decreases-loop g l = length (lines_from l.lines l.setup l.owners l.origins l.powers l.turns l.lists l.part)
