@@ -9,7 +9,6 @@ use Rattle.std.proofs.Math.ListN.{take}
 use Rattle.std.proofs.lemmas.Bool.{not-false}
 use Rattle.inputs.specs.Reads.{joined}
 use Rattle.views.specs.declared.View.{View}
-use Rattle.views.specs.declared.View.TheVariants as View
 use Rattle.endings.specs.Ending.{end_lines}
 use Rattle.endings.specs.Rest.{first_part, is_over, lines_from, text_from, filling}
 use Rattle.endings.specs.Behind.{parts_over}
