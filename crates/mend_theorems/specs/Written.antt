@@ -99,8 +99,8 @@ counts k l three =
     (record { room = refl; three = length-set e 0 513; one = rw (n, pick_no {A = ℕ} false) (get_or-set_same e 0 513 0 (omega arith)) }))
 
 pub record Over (k : List ℕ) (s : Sheet) : Type 0 where
-  room : length s.kept ≡ length k
-  over : came s.ends ≡ 513
+  pub room : length s.kept ≡ length k
+  pub over : came s.ends ≡ 513
 
 pub overs : (ls : List (List ℕ)) (k : Kept) → length k.1.ends ≡ 3 → came k.1.ends ≤ 513 → 512 < came k.1.ends + length ls → Over k.1.kept (folded after_line k (map meaning ls)).1
 unfolding folded

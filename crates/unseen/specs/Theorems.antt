@@ -21,9 +21,9 @@ use Rattle.unseen.specs.Statements.Extended.{shared, added}
 
 -- ---- one line
 pub record Meets (m n : Machine) : Type 0 where
-  alike : Alike m n
-  one_fits : Fit m
-  other_fits : Fit n
+  pub alike : Alike m n
+  pub one_fits : Fit m
+  pub other_fits : Fit n
 
 -- ---- the premise by what is printed: a gift of Realm's that gets one answer has one x0
 abbrev pub x0_of : Reply → ℕ
