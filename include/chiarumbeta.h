@@ -1,4 +1,4 @@
-// The monitor for firmware in C: link target/staticlib/libfirmware.a, which `rt staticlib firmware` makes.
+// The monitor for firmware in C: link crates/firmware/out/libfirmware.a, which `rt lib` makes in crates/firmware.
 //
 // The board lends every table, so there is no allocation and no global. A struct chiarumbeta is one machine; what holds of it is
 // in docs/RULES.md, whose sentences stand in quotation marks above the functions, and what is proved of it, and what this header

@@ -3,7 +3,7 @@
 
 The words of each line are read back: its number, the core, the world that speaks, what it asks, and what came of it. They have to be
 the request of the line, and the monitor's own answer to it: the status, or the caller, the number in x0 and the world that runs then.
-EXPLAIN and MONITOR are whole commands (target/bin/explain and target/bin/monitor where they are not set). Every fourth run reaches
+EXPLAIN and MONITOR are whole commands (crates/explain/out/explain and crates/monitor/out/monitor where they are not set). Every fourth run reaches
 `explain` in random pieces. The first difference is printed and ends the comparison with status 1."""
 
 import collections
@@ -171,8 +171,8 @@ class Reader:
 def main():
     seed, count = int(sys.argv[1]), int(sys.argv[2])
     length = int(sys.argv[3]) if len(sys.argv) > 3 else 500
-    explain = shlex.split(os.environ.get("EXPLAIN", "target/bin/explain"))
-    monitor = shlex.split(os.environ.get("MONITOR", "target/bin/monitor"))
+    explain = shlex.split(os.environ.get("EXPLAIN", "crates/explain/out/explain"))
+    monitor = shlex.split(os.environ.get("MONITOR", "crates/monitor/out/monitor"))
     seen = collections.Counter()
     for number in range(seed, seed + count):
         data = run(number, length)

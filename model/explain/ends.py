@@ -3,7 +3,7 @@
 
 The machine keeps for each page the line that named its owner, for each mapping its place, and which lines are about a page. What
 `explain` tells after the last line, the history of some pages and the picture have to be what is worked out from that, sign for sign.
-EXPLAIN is a whole command (target/bin/explain where it is not set). The first difference is printed and ends it with status 1."""
+EXPLAIN is a whole command (crates/explain/out/explain where it is not set). The first difference is printed and ends it with status 1."""
 
 import os
 import random
@@ -163,7 +163,7 @@ def same(number, what, ours, theirs):
 def main():
     seed, count = int(sys.argv[1]), int(sys.argv[2])
     length = int(sys.argv[3]) if len(sys.argv) > 3 else 500
-    explain = shlex.split(os.environ.get("EXPLAIN", "target/bin/explain"))
+    explain = shlex.split(os.environ.get("EXPLAIN", "crates/explain/out/explain"))
     shown = 0
     for number in range(seed, seed + count):
         data = run(number, length)

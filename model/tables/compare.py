@@ -6,8 +6,8 @@ compare.py tables COUNT SEED    the program that TABLES names against build.py o
 compare.py vet COUNT SEED       the program that VET names against vet.py on COUNT tables, most of them damaged
 compare.py cases                the models against the cases worked out by hand, and the programs that are named
 
-TABLES and VET are whole commands (target/bin/tables and target/bin/vet where they are not set), so they can begin with
-an emulator; `python3 model/tables/build.py` and `python3 model/tables/vet.py` are such commands, too.
+TABLES and VET are whole commands (crates/tables/out/tables and crates/vet/out/vet where they are not set);
+`python3 model/tables/build.py` and `python3 model/tables/vet.py` are such commands, too.
 The first difference ends the comparison with status 1."""
 
 import collections
@@ -41,7 +41,7 @@ def differ(*words):
 
 
 def program(name):
-    return shlex.split(os.environ.get(name, f"target/bin/{name.lower()}"))
+    return shlex.split(os.environ.get(name, f"crates/{name.lower()}/out/{name.lower()}"))
 
 
 def started(command, *arguments, run):
