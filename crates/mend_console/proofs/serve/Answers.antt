@@ -1,7 +1,8 @@
 use Rattle.std.proofs.Common.{rules}
 use Rattle.std.proofs.Math.Path.{refl}
 use Rattle.rules.specs.Choice.{yes_or_no}
-use Rattle.inputs.proofs.Loop.{serving_none, taken_on, taken_all}
+use Rattle.inputs.specs.Loop.{serving_none}
+use Rattle.inputs.proofs.Loop.{taken_on, taken_all}
 use Rattle.mending.specs.Judged.{meaning, after_line}
 use Rattle.mending.specs.Laws.{meaning_blind}
 use Rattle.mend_console.proofs.serve.Goals as goal
