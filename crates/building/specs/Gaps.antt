@@ -13,7 +13,7 @@ use Rattle.stretches.specs.Steady.{steady, steady_most}
 use Rattle.entries.specs.Touched.{untouched_deeper, untouched_entry, steady_untouched}
 use Rattle.layout.specs.Rows.{rows, flat, total, nil, length_rows, total_skip, flat_skip, rows_skip}
 use Rattle.layout.specs.Layout.{part, below, below_at, next, entry_at}
-use Rattle.layout.proofs.Laws.{limb, limb_at}
+use Rattle.layout.specs.Limbs.{limb, limb_at}
 
 -- of so many entries from the one at b on, no mapping touches the first r
 pub record Gap (l : List Mapping) (k b most r : ℕ) : Type 0 where

@@ -14,7 +14,8 @@ use Rattle.descriptors.specs.Numbers.{span}
 use Rattle.layout.specs.Rows.{rows, flat, total, total_within, length_rows, length_flat}
 use Rattle.entries.specs.Entries.{deeper, entry}
 use Rattle.layout.specs.Layout.{part, tables, below, below_at, next, entry_at, tree}
-use Rattle.layout.proofs.Laws.{limb, limb_at, tables_are, tree_is, length_limb_at, one_table, few_slots, few_tables}
+use Rattle.layout.specs.Limbs.{limb, limb_at}
+use Rattle.layout.proofs.Laws.{tables_are, tree_is, length_limb_at, one_table, few_slots, few_tables}
 
 -- the addresses of a table, and of an entry, lie below 2^39
 pub record Inside (k a : ℕ) : Type 0 where

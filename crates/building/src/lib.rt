@@ -6,7 +6,7 @@ ghost use Rattle.tools.specs.Laid.{laid};
 ghost use Rattle.mapping.specs.Lists.{held};
 ghost use Rattle.layout.specs.Rows.{rows, nil};
 ghost use Rattle.layout.specs.Layout.{part, tables, below, entry_at, tree};
-ghost use Rattle.layout.proofs.Laws.{limb};
+ghost use Rattle.layout.specs.Limbs.{limb};
 ghost use Rattle.building.specs.Writing.{Inside, InsidePart, Fit, FitPart};
 ghost use Rattle.building.specs.Gaps.{Gap};
 ghost use Rattle.building.specs.Built.{built};

@@ -10,26 +10,18 @@ use Rattle.rules.specs.Choice.{pick, chosen, chosen_two}
 use Rattle.ranges.specs.declared.Mapping.{Mapping}
 use Rattle.layout.specs.Rows.{rows, flat, total, length_rows, length_flat, total_most, flat_none}
 use Rattle.entries.specs.Entries.{deeper}
+use Rattle.layout.specs.Limbs.{limb, limb_at}
 use Rattle.layout.specs.Layout.{part, tables, below, below_at, next, entry_at, tree}
 
 module _ (l : List Mapping) where
-  -- ---- the tables below an entry, the first of them table t
-  unfoldable pub limb : ℕ → ℕ → ℕ → List ℕ
-  limb zero b t = []
-  limb (suc k) b t = pick (deeper l (suc k) b) (tree l k b t) []
-
-  unfoldable pub limb_at : ℕ → ℕ → ℕ → ℕ → List ℕ
-  limb_at k a t i = limb k (part k a i) (next l k a t i)
-
-  -- ---- each table, at any level: its entries, and what stands below them
   pub tables_are : (k a : ℕ) → tables l k a ≡ 1 + total (below_at l k a) 512
   unfolding tables below_at below
   tables_are zero a = let z : total (below_at l zero a) 512 ≤ 512 * 0 = total_most (below_at l zero a) 0 (λ i. omega arith) 512 in omega arith
   tables_are (suc k) a = refl
 
-  pub tree_is : (k a t : ℕ) → tree l k a t ≡ rows (entry_at l k a t) 512 ++ flat (limb_at k a t) 512
+  pub tree_is : (k a t : ℕ) → tree l k a t ≡ rows (entry_at l k a t) 512 ++ flat (limb_at l k a t) 512
   unfolding tree limb_at limb
-  tree_is zero a t = rw (flat_none (limb_at zero a t) (λ i. refl) 512) (sym (append-nil (rows (entry_at l zero a t) 512)))
+  tree_is zero a t = rw (flat_none (limb_at l zero a t) (λ i. refl) 512) (sym (append-nil (rows (entry_at l zero a t) 512)))
   tree_is (suc k) a t = refl
 
   -- ---- lengths
@@ -45,13 +37,13 @@ module _ (l : List Mapping) where
       let r = length_flat f g 512 each 512 in
       length-append (rows (entry_at l (suc k) a t) 512) (flat f 512) ∙ rw (length_rows (entry_at l (suc k) a t) 512, r) (omega arith)
 
-  length_limb : (k b t : ℕ) → length (limb k b t) ≡ 512 * below l k b
+  length_limb : (k b t : ℕ) → length (limb l k b t) ≡ 512 * below l k b
   unfolding limb below
   length_limb zero b t = refl
   length_limb (suc k) b t =
       chosen_two (λ (x : List ℕ) (n : ℕ). length x ≡ 512 * n) (deeper l (suc k) b) _ _ _ _ (λ e. length_tree k b t) (λ e. refl)
 
-  pub length_limb_at : (k a t i : ℕ) → length (limb_at k a t i) ≡ 512 * below_at l k a i
+  pub length_limb_at : (k a t i : ℕ) → length (limb_at l k a t i) ≡ 512 * below_at l k a i
   unfolding limb_at below_at
   length_limb_at k a t i = length_limb k (part k a i) (next l k a t i)
 

@@ -21,7 +21,8 @@ use Rattle.entries.specs.Touched.{untouched}
 use Rattle.entries.specs.Entries.{physical, leaf, whole, deeper, entry}
 use Rattle.layout.specs.Rows.{rows, flat, total, length_rows, Stands, stands_left, stands_right, stands_rows, stands_flat, total_within}
 use Rattle.layout.specs.Layout.{part, tables, below, below_at, next, entry_at, tree}
-use Rattle.layout.proofs.Laws.{limb, limb_at, tables_are, tree_is, length_limb_at}
+use Rattle.layout.specs.Limbs.{limb, limb_at}
+use Rattle.layout.proofs.Laws.{tables_are, tree_is, length_limb_at}
 use Rattle.tables_right.specs.Numbers.{nothing_means, table_means, leaf_means}
 use Rattle.tables_right.specs.Decided.{decider_formed, decider_low, exact_physical, One, whole_one}
 

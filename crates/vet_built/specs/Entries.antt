@@ -22,7 +22,8 @@ use Rattle.walks.specs.Walk.{entry_of}
 use Rattle.entries.specs.Entries.{leaf, physical, whole, deeper, entry}
 use Rattle.layout.specs.Rows.{rows, flat, total, length_rows, Stands, stands_left, stands_right, stands_rows, stands_flat}
 use Rattle.layout.specs.Layout.{part, tables, below, below_at, next, entry_at, tree}
-use Rattle.layout.proofs.Laws.{limb, limb_at, tree_is, length_limb_at}
+use Rattle.layout.specs.Limbs.{limb, limb_at}
+use Rattle.layout.proofs.Laws.{tree_is, length_limb_at}
 use Rattle.tables_right.specs.Numbers.{leaf_means}
 use Rattle.tables_right.specs.Decided.{decider_formed, exact_physical, whole_one}
 

@@ -5,7 +5,7 @@ use Rattle.tools.specs.Laid.{laid}
 use Rattle.mapping.specs.Lists.{held}
 use Rattle.layout.specs.Layout as Layout
 use Rattle.layout.specs.Rows.{flat}
-use Rattle.layout.proofs.Laws.{limb_at}
+use Rattle.layout.specs.Limbs.{limb_at}
 use Rattle.building.proofs.+write_limb_write_tree.Given as goal
 
 abbrev pub invariant-write_tree-loop-i : goal.invariant-write_tree-loop-i
