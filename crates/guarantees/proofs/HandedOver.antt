@@ -11,16 +11,16 @@ use Rattle.calls.specs.Left as Left
 use Rattle.parsing.specs.declared.Frame.{Frame}
 use Rattle.parsing.specs.declared.Frame.TheVariants as Frame
 use Rattle.calling.specs.Calling.{performed}
-use Rattle.frames.specs.Frames.{Machine, first, framed, state_of}
+use Rattle.frames.specs.Frames.{Machine, framed, state_of}
 use Rattle.frames.specs.Stays.{framed_by, shown_not_told}
 use Rattle.showing.specs.declared.Reply.{Reply}
 use Rattle.guarantees.specs.Runs.{Event, Events, byte, next, reply, Taken, ran}
-use Rattle.guarantees.specs.Fit.{Fit, fit_next, first_fit}
+use Rattle.guarantees.specs.Fit.{Fit, fit_next}
 use Rattle.guarantees.specs.Accepted.{right, inside, turns_are}
 use Rattle.guarantees.specs.Statements.{running}
 use Rattle.guarantees.specs.Started.{kind, same_or_other}
 use Rattle.guarantees.proofs.Steps.{hands_asked, gives_back, goes_off, off_asked}
-use Rattle.guarantees.specs.HandedOver.{Away, Became, Ends, OpenHandOver, Unended, as_before, by_arrival, by_finish, by_hand_over, by_off, ends_accepted, ends_by, home, kept, none_away, not_normal, received, turn_cases}
+use Rattle.guarantees.specs.HandedOver.{Away, Became, Ends, Unended, as_before, by_arrival, by_finish, by_hand_over, by_off, ends_accepted, ends_by, home, kept, not_normal, received, turn_cases}
 
 module _ (m : Machine) (fit : Fit m) (e : Event) (core : ℕ) where
   -- an accepted call on the core
@@ -79,7 +79,7 @@ module _ (m : Machine) (fit : Fit m) (e : Event) (core : ℕ) where
       (λ n. kept (other_arrival c n is) (ap (λ (q : Turn). q.world) (arrival_turns (state_of m) c core n))))
       e.0 refl refl
 
-away : (core : ℕ) (run : Events) (m : Machine) → Fit m → Takes (running (ran m run) core) → Away m run core (running (ran m run) core)
+pub away : (core : ℕ) (run : Events) (m : Machine) → Fit m → Takes (running (ran m run) core) → Away m run core (running (ran m run) core)
 unfolding ran Unended
 away core [] m fit k = as_before tt refl
 away core (e ∷ rest) m fit k = longer (became m fit e core) (away core rest (next m e) (fit_next m e fit) k)
@@ -95,14 +95,3 @@ away core (e ∷ rest) m fit k = longer (became m fit e core) (away core rest (n
         by_hand_over (rw q (record { before = []; line = e; later = rest; stands = refl; handed = h; since = u }))
     longer (kept n q) (as_before u r) = as_before (n, u) (sym q ∙ r)
     longer (home q) (as_before u r) = absurd (not_normal w k (sym r ∙ q))
-
--- A core that runs Secure or Realm after a run is in a hand-over to that world.
-pub away_handed : (core : ℕ) (run : Events) → Takes (running (ran first run) core) → OpenHandOver first run core (running (ran first run) core)
-away_handed core run k = which (away core run first first_fit k)
-  where
-    w : ℕ
-    w = running (ran first run) core
-
-    which : Away first run core w → OpenHandOver first run core w
-    which (by_hand_over l) = l
-    which (as_before u r) = absurd (none_away core (subst (λ (q : ℕ). Takes q) (sym r) k))

@@ -1,7 +1,10 @@
 pub mod After
+pub mod AwayHanded
 pub mod Cases
+pub mod GuaranteedAfter
 pub mod HandedOver
 pub mod Owners
+pub mod PendingStarted
 pub mod Printed
 pub mod Started
 pub mod Steps

@@ -6,13 +6,12 @@ use Rattle.rules.specs.Choice.{yes_or_no}
 use Rattle.cores.specs.Power.{power_of, pending, is_pending}
 use Rattle.cores.specs.Cores.{power}
 use Rattle.cores.specs.declared.Power.{Power}
-use Rattle.parsing.specs.declared.Frame.TheVariants as Frame
-use Rattle.frames.specs.Frames.{Machine, first}
+use Rattle.frames.specs.Frames.{Machine}
 use Rattle.guarantees.specs.Runs.{Events, next, ran}
-use Rattle.guarantees.specs.Fit.{Fit, fit_next, first_fit}
-use Rattle.guarantees.specs.Started.{Became, LastStart, Pended, Unstarted, as_before, became, by_start, gone, kept, none_pending, started}
+use Rattle.guarantees.specs.Fit.{Fit, fit_next}
+use Rattle.guarantees.specs.Started.{Became, Pended, Unstarted, as_before, became, by_start, gone, kept, started}
 
-pended : (target : ℕ) (run : Events) (m : Machine) → Fit m → is_pending (power (ran m run).powers target) ≡ true → Pended m run target (power (ran m run).powers target)
+pub pended : (target : ℕ) (run : Events) (m : Machine) → Fit m → is_pending (power (ran m run).powers target) ≡ true → Pended m run target (power (ran m run).powers target)
 unfolding ran Unstarted is_pending
 pended target [] m fit y = as_before tt refl
 pended target (e ∷ rest) m fit y = longer (became m fit e target) (pended target rest (next m e) (fit_next m e fit) y)
@@ -28,15 +27,3 @@ pended target (e ∷ rest) m fit y = longer (became m fit e target) (pended targ
         by_start (rw q (record { before = []; line = e; later = rest; stands = refl; granted = t; last = u }))
     longer (kept n w) (as_before u h) = as_before (n, u) (sym w ∙ h)
     longer (gone w) (as_before u h) = absurd (yes_or_no _ y (rw h at w))
-
--- A core that is pending after a run has the address and the context that its last granted start gave.
-pub pending_started : (target : ℕ) (run : Events) → is_pending (power (ran first run).powers target) ≡ true
-    → LastStart first run target (power (ran first run).powers target).start (power (ran first run).powers target).context
-pending_started target run y = which (pended target run first first_fit y)
-  where
-    p : Power
-    p = power (ran first run).powers target
-
-    which : Pended first run target p → LastStart first run target p.start p.context
-    which (by_start l) = l
-    which (as_before u h) = absurd (yes_or_no _ y (rw h at (none_pending target)))

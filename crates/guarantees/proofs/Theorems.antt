@@ -20,11 +20,11 @@ use Rattle.guarantees.specs.Entries.{one_entry}
 use Rattle.guarantees.specs.Statements.{Guaranteed, Heeded, owner_in, running, number, call}
 use Rattle.parsing.specs.declared.Status.TheVariants.{Accepted}
 use Rattle.guarantees.specs.Started.{LastStart}
-use Rattle.guarantees.proofs.Started.{pending_started}
+use Rattle.guarantees.proofs.PendingStarted.{pending_started}
 use Rattle.guarantees.proofs.Steps.{heeded}
 use Rattle.guarantees.specs.HandedOver.{OpenHandOver}
-use Rattle.guarantees.proofs.HandedOver.{away_handed}
-use Rattle.guarantees.proofs.After.{guaranteed_after}
+use Rattle.guarantees.proofs.AwayHanded.{away_handed}
+use Rattle.guarantees.proofs.GuaranteedAfter.{guaranteed_after}
 use Rattle.guarantees.specs.Printed.{AllFit}
 use Rattle.guarantees.proofs.Printed.{fits_first}
 use Rattle.guarantees.specs.Theorems.{Dispatched, Step, event, none_names}
