@@ -16,7 +16,6 @@ ghost use Rattle.std.specs.Prelude.{◌≤◌, ◌<◌, length, IfOk};
 use reading::Line;
 use spaces::{Numbers, ROOM, say};
 use std::io;
-use std::io::Read as _;
 
 // Converts the first places of each space.
 fn convert(l: Line, bytes: &mut [u8], held: usize, numbers: &mut [u64], counted: usize) -> u64 {
@@ -85,23 +84,8 @@ fn run(rt: &impl Print, text: &[u8]) -> io::Result<()> {
     Ok(())
 }
 
-// Reads until the buffer is full or the input ends: how many bytes there are then.
-fn read_full(input: &mut impl io::Read, buf: &mut [u8]) -> io::Result<usize>
-    ensures { IfOk result (λ n. n ≤ length buf.new) }
-{
-    let mut done = 0;
-    while done < buf.len() {
-        let n = input.read(&mut buf[done..])?;
-        if n == 0 {
-            return Ok(done);
-        }
-        done += n;
-    }
-    Ok(done)
-}
-
 fn main(rt: HostRuntime) -> io::Result<()> {
     let mut input = [0u8; 65536];
-    let n = read_full(&mut rt.reader(), &mut input)?;
+    let n = input_whole::read_full(&mut rt.reader(), &mut input)?;
     run(&rt, &input[..n])
 }

@@ -1,12 +1,10 @@
 // Lists the images of a firmware package: fip FILE. Writes one of them to standard output: fip FILE IDENTIFIER.
 #![tactic(auto)]
 
-ghost use Rattle.std.specs.Prelude.{◌≤◌, length, IfOk};
-
 use std::env::FillError;
-use std::io::{Error, Read};
-use std::rt::{Env, Files};
-use std::{fs, io};
+use std::io;
+use std::io::Error;
+use std::rt::Env;
 
 // One byte more than a package has at most, so that a longer file is seen to be one.
 const SPACE: usize = fip_entries::MOST_BYTES + 1;
@@ -14,9 +12,7 @@ const SPACE: usize = fip_entries::MOST_BYTES + 1;
 // Room for any path.
 const PATH: usize = 4096;
 
-// The system's numbers for no fault, for a name that is too long, and for bytes that are no text.
-const NO_FAULT: i32 = 0;
-
+// The system's numbers for a name that is too long, and for bytes that are no text.
 const TOO_LONG: i32 = 36;
 
 const NO_TEXT: i32 = 84;
@@ -77,43 +73,6 @@ fn show(rt: &(impl Print + Eprint + Alloc), pack: &[u8], id: &[u8; 16]) -> io::R
     give(rt, fip_read::find(pack, id))
 }
 
-// Reads until the buffer is full or the file ends: how many bytes there are then.
-fn read_full(file: &mut impl Read, buf: &mut [u8]) -> io::Result<usize>
-    ensures { IfOk result (λ n. n ≤ length buf.new) }
-{
-    let mut done = 0;
-    while done < buf.len() {
-        let n = file.read(&mut buf[done..])?;
-        if n == 0 {
-            return Ok(done);
-        }
-        done += n;
-    }
-    Ok(done)
-}
-
-// Whether n bytes are all of the file, or too many for a package.
-fn is_read(file: &mut impl Read, n: usize) -> io::Result<bool> {
-    if n == SPACE {
-        return Ok(true);
-    }
-    let mut more = [0u8; 1];
-    let got = file.read(&mut more)?;
-    Ok(got == 0)
-}
-
-// Reads a file, or as much of it as there is room for: how many bytes there are then.
-fn load(rt: &impl Files, path: &str, pack: &mut [u8]) -> io::Result<usize>
-    ensures { IfOk result (λ n. n ≤ length pack.new) }
-{
-    let mut file = fs::open(rt, path)?;
-    let n = read_full(&mut file, pack)?;
-    if is_read(&mut file, n)? {
-        return Ok(n);
-    }
-    Err(Error::from_raw_os_error(NO_FAULT))
-}
-
 // Whether the program was started with so many words behind its name, or more.
 fn has_word(rt: &impl Env, i: usize) -> bool {
     let mut word = [0u8; 1];
@@ -142,7 +101,7 @@ fn main(rt: HostRuntime) -> io::Result<()> {
         Err(_) => return fail(&rt, "fip", Error::from_raw_os_error(NO_TEXT)),
     };
     let mut pack = [0u8; SPACE];
-    let n = match load(&rt, path, &mut pack) {
+    let n = match input_whole::load(&rt, path, &mut pack) {
         Ok(n) => n,
         Err(e) => return fail(&rt, path, e),
     };

@@ -19,7 +19,6 @@ use mapping::{Lists, Mapping};
 use pages::{Owners, Window};
 use rules::{ROOT, Reason};
 use std::io;
-use std::io::Read as _;
 
 // What a line asks for, and where its name begins.
 #[derive(Clone, Copy)]
@@ -272,23 +271,8 @@ fn run(rt: &impl Print, text: &[u8]) -> io::Result<()> {
     Ok(())
 }
 
-// Reads until the buffer is full or the input ends: how many bytes there are then.
-fn read_full(input: &mut impl io::Read, buf: &mut [u8]) -> io::Result<usize>
-    ensures { IfOk result (λ n. n ≤ length buf.new) }
-{
-    let mut done = 0;
-    while done < buf.len() {
-        let n = input.read(&mut buf[done..])?;
-        if n == 0 {
-            return Ok(done);
-        }
-        done += n;
-    }
-    Ok(done)
-}
-
 fn main(rt: HostRuntime) -> io::Result<()> {
     let mut buf = [0u8; 65536];
-    let n = read_full(&mut rt.reader(), &mut buf)?;
+    let n = input_whole::read_full(&mut rt.reader(), &mut buf)?;
     run(&rt, &buf[..n])
 }

@@ -1,14 +1,12 @@
 // Vets a file of tables against what a world has mapped after the run on standard input: vet WORLD TABLES.
 #![tactic(auto)]
 
-ghost use Rattle.std.specs.Prelude.{◌≤◌, length, IfOk};
-
 use mapping::Lists;
 use rules::ROOT;
 use std::env::FillError;
-use std::io::{Error, Read};
+use std::io;
+use std::io::Error;
 use std::rt::{Env, Files};
-use std::{fs, io};
 use table_files::Numbers;
 use vetting::Vetted;
 
@@ -18,9 +16,7 @@ const SPACE: usize = 8 * table_files::MOST + 1;
 // Room for any path.
 const PATH: usize = 4096;
 
-// The system's numbers for no fault, for a name that is too long, and for bytes that are no text.
-const NO_FAULT: i32 = 0;
-
+// The system's numbers for a name that is too long, and for bytes that are no text.
 const TOO_LONG: i32 = 36;
 
 const NO_TEXT: i32 = 84;
@@ -100,43 +96,6 @@ fn judge(
     vet_first(rt, &numbers, n, &lists, world)
 }
 
-// Reads until the buffer is full or the file ends: how many bytes there are then.
-fn read_full(file: &mut impl Read, buf: &mut [u8]) -> io::Result<usize>
-    ensures { IfOk result (λ n. n ≤ length buf.new) }
-{
-    let mut done = 0;
-    while done < buf.len() {
-        let n = file.read(&mut buf[done..])?;
-        if n == 0 {
-            return Ok(done);
-        }
-        done += n;
-    }
-    Ok(done)
-}
-
-// Whether n bytes are all of the file, or too many.
-fn is_read(file: &mut impl Read, n: usize) -> io::Result<bool> {
-    if n == SPACE {
-        return Ok(true);
-    }
-    let mut more = [0u8; 1];
-    let got = file.read(&mut more)?;
-    Ok(got == 0)
-}
-
-// Reads a file, or as much of it as there is room for: how many bytes there are then.
-fn load(rt: &impl Files, path: &str, bytes: &mut [u8]) -> io::Result<usize>
-    ensures { IfOk result (λ n. n ≤ length bytes.new) }
-{
-    let mut file = fs::open(rt, path)?;
-    let n = read_full(&mut file, bytes)?;
-    if is_read(&mut file, n)? {
-        return Ok(n);
-    }
-    Err(Error::from_raw_os_error(NO_FAULT))
-}
-
 // A file is judged if it is a whole number of numbers, and not too many of them.
 fn vet_file(
     rt: &(impl Files + Input + Print + Eprint + Alloc),
@@ -144,7 +103,7 @@ fn vet_file(
     world: u64,
 ) -> io::Result<()> {
     let mut bytes = [0u8; SPACE];
-    let n = match load(rt, path, &mut bytes) {
+    let n = match input_whole::load(rt, path, &mut bytes) {
         Ok(n) => n,
         Err(e) => return fail(rt, path, e),
     };

@@ -8,12 +8,9 @@
 // v NAME: the tables are vetted, and a line of the output has what came of it, and the rest of this line
 #![tactic(auto)]
 
-ghost use Rattle.std.specs.Prelude.{◌≤◌, length, IfOk};
-
 use mapping::{Lists, Mapping};
 use rules::NORMAL;
 use std::io;
-use std::io::Read as _;
 use table_files::{MOST, Numbers};
 use vetting::Vetted;
 
@@ -147,24 +144,9 @@ fn play(rt: &impl Print, text: &[u8], numbers: &mut Numbers, lists: &mut Lists) 
     Ok(())
 }
 
-// Reads until the buffer is full or the input ends: how many bytes there are then.
-fn read_full(input: &mut impl io::Read, buf: &mut [u8]) -> io::Result<usize>
-    ensures { IfOk result (λ n. n ≤ length buf.new) }
-{
-    let mut done = 0;
-    while done < buf.len() {
-        let n = input.read(&mut buf[done..])?;
-        if n == 0 {
-            return Ok(done);
-        }
-        done += n;
-    }
-    Ok(done)
-}
-
 fn main(rt: HostRuntime) -> io::Result<()> {
     let mut buf = [0u8; 65536];
-    let n = read_full(&mut rt.reader(), &mut buf)?;
+    let n = input_whole::read_full(&mut rt.reader(), &mut buf)?;
     let mut numbers = [0u64; MOST];
     let mut lists = mapping::fresh();
     play(&rt, &buf[..n], &mut numbers, &mut lists)

@@ -1,6 +1,6 @@
 -- What was read stands in the buffer, and each pass leaves less room behind it.
 use Rattle.std.proofs.Common.{length, ◌-◌, ◌≤◌}
-use Rattle.vet_run.proofs.read_full.Given as goal
+use Rattle.input_whole.proofs.read_full.Given as goal
 
 abbrev pub invariant-loop-done : goal.invariant-loop-done
 invariant-loop-done g l = l.done ≤ length l.buf
