@@ -1,5 +1,5 @@
 -- The sentence for each thing that is told in the end, and for the page that holds an address.
-use Rattle.std.specs.Prelude.{◌≡◌, Bool, true, false, List, ℕ, ◌+◌, ◌/◌, ◌%◌, ◌≤◌, ◌<◌, ltb}
+use Rattle.std.specs.Prelude.{◌≡◌, Bool, true, false, List, ℕ, ◌+◌, ◌/◌, ◌%◌, ◌≤◌, ◌<◌, ltb, None, Option, Some}
 use Rattle.std.proofs.Math.Path.{refl}
 use Rattle.std.proofs.Common.{sym, ◌∙◌, lt-ltb, le-ltb}
 use Rattle.rules.specs.Choice.{pick, picked, passed}
@@ -8,8 +8,6 @@ use Rattle.cores.specs.Cores.{power, turn}
 use Rattle.pages.specs.Window.{page_of}
 use Rattle.pages.specs.Owners.{owner}
 use Rattle.pages.specs.declared.Window.{Window}
-use Rattle.pages.specs.declared.Place.{Place}
-use Rattle.pages.specs.declared.Place.TheVariants.{Page, Outside}
 use Rattle.mapping.specs.Lists.{place}
 use Rattle.setup.specs.Table.{ready, window}
 use Rattle.origins.specs.Origins.{origin}
@@ -45,9 +43,9 @@ said n s o t p u l End = blank
 unfoldable pub page_end : ℕ → ℕ
 page_end page = pick (ltb page most_pages) (page + 1) page
 
-abbrev pub page_at : List ℕ → List ℕ → List ℕ → ℕ → Place → Sentence
-page_at s o t address (Page page) = range_told s o t page (page_end page)
-page_at s o t address Outside = outside_said address
+abbrev pub page_at : List ℕ → List ℕ → List ℕ → ℕ → Option ℕ → Sentence
+page_at s o t address (Some page) = range_told s o t page (page_end page)
+page_at s o t address None = outside_said address
 
 -- whose it is, and by which line
 unfoldable pub page_told : List ℕ → List ℕ → List ℕ → ℕ → Sentence
@@ -95,16 +93,18 @@ module _ (s o t : List ℕ) (address : ℕ) (r : Sentence) (b : Bool) (is : b �
   unfolding page_told
   page_none e h = passed _ _ _ _ (sym is ∙ e) h
 
-  module _ (v : Window) (has : v ≡ window s) (p : Place) (lies : p ≡ page_of v address) (e : b ≡ true) where
+  module _ (v : Window) (has : v ≡ window s) (p : Option ℕ) (lies : p ≡ page_of v address) (e : b ≡ true) where
     at_place : page_of (window s) address ≡ p
     at_place = sym (rw has at lies)
 
-    pub page_inside : (page end : ℕ) → p ≡ Page page → end ≡ page_end page → r ≡ range_told s o t page end → r ≡ page_told s o t address
+    pub page_inside : (page end : ℕ) → p ≡ Some page → end ≡ page_end page → r ≡ range_told s o t page end → r ≡ page_told s o t address
     unfolding page_told
     page_inside page end f g h = picked _ _ _ _ (sym is ∙ e) (rw (at_place, f) (rw g at h))
 
-    pub page_outside : p ≡ Outside → r ≡ outside_said address → r ≡ page_told s o t address
+    pub page_outside : p ≡ None → r ≡ outside_said address → r ≡ page_told s o t address
     unfolding page_told
     page_outside f h = picked _ _ _ _ (sym is ∙ e) (rw (at_place, f) h)
 
 pub ruleset pages_told = (page_none, page_inside, page_outside)
+
+pub ruleset laws = (sayings, page_ends, pages_told)

@@ -1,19 +1,20 @@
 // The sentence for each thing that is told in the end.
-#![tactic(auto)]
+#![tactic(auto, using(crate::specs::Accounts::laws))]
 
 ghost use Rattle.std.specs.Prelude.{◌≡◌};
 ghost use Rattle.accounts.specs.Accounts.{core_told, range_told, held_told, said, page_end, page_told};
 
 use cores::{Powers, Turns};
-use inventory::Thing;
+use inventory::{Ending, Thing};
 use mapping::Lists;
-use origins::{Lines, Origins};
-use pages::{Owners, Place};
+use origins::Origins;
+use pages::Owners;
 use phrases::Sentence;
 use rules::{MOST_MAPPINGS, MOST_PAGES};
 use setup::Setup;
 use words::names;
 
+#[tactic(auto, unfolding(crate::specs::Accounts::core_told))]
 fn core_said(powers: &Powers, turns: &Turns, core: u64) -> Sentence
     ensures { result ≡ core_told powers.now turns.now core }
 {
@@ -22,6 +23,7 @@ fn core_said(powers: &Powers, turns: &Turns, core: u64) -> Sentence
     standing::core_said(core, power, turn.world)
 }
 
+#[tactic(auto, unfolding(crate::specs::Accounts::range_told))]
 fn range_said(setup: &Setup, owners: &Owners, origins: &Origins, first: u64, end: u64) -> Sentence
     ensures { result ≡ range_told setup.now owners.now origins.now first end }
 {
@@ -31,6 +33,7 @@ fn range_said(setup: &Setup, owners: &Owners, origins: &Origins, first: u64, end
     standing::range_said(w, first, end, owner, line)
 }
 
+#[tactic(auto, unfolding(crate::specs::Accounts::held_told))]
 fn held_said(lists: &Lists, i: u64) -> Sentence
     ensures { result ≡ held_told lists.now i }
 {
@@ -40,24 +43,17 @@ fn held_said(lists: &Lists, i: u64) -> Sentence
 }
 
 // What is said of a thing.
-pub fn said(
-    thing: Thing,
-    lines: &Lines,
-    setup: &Setup,
-    owners: &Owners,
-    origins: &Origins,
-    powers: &Powers,
-    turns: &Turns,
-    lists: &Lists,
-) -> Sentence
-    ensures { result ≡ said lines.now setup.now owners.now origins.now powers.now turns.now lists.now thing }
+pub fn said(thing: Thing, ending: &Ending) -> Sentence
+    ensures { result ≡ said ending.now.lines.now ending.now.setup.now ending.now.owners.now ending.now.origins.now ending.now.powers.now ending.now.turns.now ending.now.lists.now thing }
 {
     match thing {
-        Thing::Head => standing::head_said(origins::lines_in(lines)),
+        Thing::Head => standing::head_said(origins::lines_in(ending.lines)),
         Thing::NoWindow => standing::word_said(names::NO_WINDOW),
-        Thing::Core(core) => core_said(powers, turns, core),
-        Thing::Range { first, end } => range_said(setup, owners, origins, first, end),
-        Thing::Held(i) => held_said(lists, i),
+        Thing::Core(core) => core_said(ending.powers, ending.turns, core),
+        Thing::Range { first, end } => {
+            range_said(ending.setup, ending.owners, ending.origins, first, end)
+        }
+        Thing::Held(i) => held_said(ending.lists, i),
         Thing::NoMappings => standing::word_said(names::NO_MAPPINGS),
         Thing::End => Sentence::blank(),
     }
@@ -67,22 +63,25 @@ pub fn said(
 fn page_end(page: u64) -> u64
     ensures { result ≡ page_end page }
 {
-    if page < MOST_PAGES {
-        return page + 1;
-    }
-    page
+    if page < MOST_PAGES { page + 1 } else { page }
 }
 
 // The page that holds an address: whose it is, and by which line.
-pub fn page_said(setup: &Setup, owners: &Owners, origins: &Origins, address: u64) -> Sentence
-    ensures { result ≡ page_told setup.now owners.now origins.now address }
+pub fn page_said(ending: &Ending, address: u64) -> Sentence
+    ensures { result ≡ page_told ending.now.setup.now ending.now.owners.now ending.now.origins.now address }
 {
-    if setup::is_ready(setup) {
-        let w = setup::window_of(setup);
-        let Place::Page(page) = w.page_of(address) else {
-            return standing::outside_said(address);
-        };
-        return range_said(setup, owners, origins, page, page_end(page));
+    if !setup::is_ready(ending.setup) {
+        return standing::word_said(names::NO_WINDOW);
     }
-    standing::word_said(names::NO_WINDOW)
+    let w = setup::window_of(ending.setup);
+    let Some(page) = w.page_of(address) else {
+        return standing::outside_said(address);
+    };
+    range_said(
+        ending.setup,
+        ending.owners,
+        ending.origins,
+        page,
+        page_end(page),
+    )
 }

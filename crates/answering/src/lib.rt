@@ -28,6 +28,7 @@ fn put_reply(out: &mut [u8], at: usize, r: Reply) -> usize
 }
 
 // One frame, and its answer: the place behind it.
+// C lends each table by a pointer of its own (chiarumbeta_lent_feed), so they come one by one.
 pub fn answer(
     frame: Frame,
     x: &[u64; 8],

@@ -1,5 +1,5 @@
 -- How the code's branches meet the definitions of Answers, and what an answer leaves.
-use Rattle.std.specs.Prelude.{◌≡◌, refl, Bool, true, false, List, [], ◌∷◌, ℕ, zero, suc, ◌+◌, ◌-◌, ◌^◌, ◌≤◌, ◌<◌, length, get_or}
+use Rattle.std.specs.Prelude.{◌≡◌, refl, true, false, List, [], ◌∷◌, ℕ, zero, suc, ◌+◌, ◌-◌, ◌^◌, ◌≤◌, ◌<◌, length, get_or}
 use Rattle.std.proofs.Common.{sym, ap, ◌∙◌, arith}
 use Rattle.rules.specs.Sizes.{most_cores}
 use Rattle.rules.specs.Reasons.{minus, minus_at}
@@ -10,21 +10,11 @@ use Rattle.registers.specs.Registers.{Whole, saved, saving, saving_none, saving_
 use Rattle.judgements.specs.Judge.{called_by}
 use Rattle.judgements.specs.declared.Answer.{Answer}
 use Rattle.judgements.specs.declared.Answer.TheVariants.{Version, PowerVersion, Done, On, Off, Pending, Owns, Leads, Count, Silent, No}
-use Rattle.answers.specs.Answers.{negative, bit, written, told, answered_by, answered_in}
+use Rattle.answers.specs.Answers.{negative, written, told, answered_by, answered_in}
 
 -- ---- the code
-module _ (p : Parts) (a : Answer) (r r' : List ℕ) (c w : ℕ) where
-  pub writes : (b : Answer) → a ≡ b → r' ≡ saving r c w (written p b) → r' ≡ saving r c w (written p a)
-  writes b e h = rw e h
-
-  pub writes_owns : (is : Bool) (n : ℕ) → a ≡ Owns is → n ≡ bit is → r' ≡ saving r c w (n ∷ []) → r' ≡ saving r c w (written p a)
-  writes_owns is n e f h = rw (e, ← f) h
-
-  pub writes_nothing : a ≡ Silent → r' ≡ r → r' ≡ saving r c w (written p a)
-  writes_nothing e h = rw e (h ∙ sym (saving_none r c w))
-
-  pub writes_no : (q : Reason) → a ≡ No q → r' ≡ saving r c w (written p (No q)) → r' ≡ saving r c w (written p a)
-  writes_no q e h = rw e h
+pub writes_nothing : (p : Parts) (a : Answer) (r r' : List ℕ) (c w : ℕ) → a ≡ Silent → r' ≡ r → r' ≡ saving r c w (written p a)
+writes_nothing p a r r' c w e h = rw e (h ∙ sym (saving_none r c w))
 
 pub writes_refusal : (p : Parts) (q : Reason) (r r' : List ℕ) (c w n : ℕ) → n ≡ negative p (minus q) → r' ≡ saving r c w (n ∷ []) → r' ≡ saving r c w (written p (No q))
 writes_refusal p q r r' c w n f h = rw f at h
@@ -40,8 +30,6 @@ module _ (p : Parts) (q : Reason) (high n : ℕ) (e : high ≡ 2 ^ answer_bits p
   pub negates : high - n + 1 ≡ negative p (minus q)
   unfolding negative
   negates = let k = minus_at q in let w = answer_room p in rw (e, f) (omega (arith, k.0, k.1, w.0))
-
-pub ruleset answers = (writes_owns, writes_nothing, writes_no, writes)
 
 pub answered : (r q r' xs : List ℕ) (c w : ℕ) (p : Parts) (a : Answer) → q ≡ saving r c w xs → r' ≡ saving q c w (written p a) → r' ≡ answered_by p r c w xs a
 answered r q r' xs c w p a e h = rw (← e) h

@@ -5,7 +5,7 @@ ghost use Rattle.std.specs.Prelude.{◌≡◌};
 ghost use Rattle.registers.specs.Registers.{saving};
 ghost use Rattle.rules.specs.Reasons.{minus};
 ghost use Rattle.judgements.specs.declared.Answer.TheVariants.{No};
-ghost use Rattle.answers.specs.Answers.{negative, bit, written, told};
+ghost use Rattle.answers.specs.Answers.{negative, written, told};
 
 use identifiers::Parts;
 use judgements::Answer;
@@ -26,40 +26,11 @@ fn negative_of(p: Parts, r: Reason) -> u64
     p.highest() - minus_of(r) + 1
 }
 
-// A truth value as the paper's 1 or 0.
-fn bit_of(is: bool) -> u64
-    ensures { result ≡ bit is }
-{
-    if is {
-        return 1;
-    }
-    0
-}
-
 // Writes a refusal.
 pub fn write_refusal(t: &mut Saved, core: u64, world: u64, p: Parts, r: Reason)
     ensures { t.new ≡ saving t.old core world (written p (No r)) }
 {
     registers::save_one(t, core, world, negative_of(p, r));
-}
-
-// Writes the results that an answer lists, from x0 on; the others keep the caller's values.
-pub fn write_answer(t: &mut Saved, core: u64, world: u64, p: Parts, a: Answer)
-    ensures { t.new ≡ saving t.old core world (written p a) }
-{
-    match a {
-        Answer::Version => registers::save_one(t, core, world, 0x10003),
-        Answer::PowerVersion => registers::save_one(t, core, world, 0x10001),
-        Answer::Done => registers::save_one(t, core, world, 0),
-        Answer::On => registers::save_one(t, core, world, 0),
-        Answer::Off => registers::save_one(t, core, world, 1),
-        Answer::Pending => registers::save_one(t, core, world, 2),
-        Answer::Owns(is) => registers::save_one(t, core, world, bit_of(is)),
-        Answer::Leads { phys, attr } => registers::save_three(t, core, world, 0, phys, attr),
-        Answer::Count(n) => registers::save_one(t, core, world, n),
-        Answer::Silent => {}
-        Answer::No(r) => write_refusal(t, core, world, p, r),
-    }
 }
 
 // What an answer writes in x0; 0 where it writes nothing.
@@ -73,10 +44,28 @@ pub fn told(p: Parts, a: Answer) -> u64
         Answer::On => 0,
         Answer::Off => 1,
         Answer::Pending => 2,
-        Answer::Owns(is) => bit_of(is),
+        Answer::Owns(is) => u64::from(is),
         Answer::Leads { phys: _, attr: _ } => 0,
         Answer::Count(n) => n,
         Answer::Silent => 0,
         Answer::No(r) => negative_of(p, r),
+    }
+}
+
+// Writes the results that an answer lists, from x0 on; the others keep the caller's values.
+pub fn write_answer(t: &mut Saved, core: u64, world: u64, p: Parts, a: Answer)
+    ensures { t.new ≡ saving t.old core world (written p a) }
+{
+    match a {
+        Answer::Leads { phys, attr } => registers::save_three(
+            t,
+            core,
+            world,
+            told(p, a),
+            phys,
+            attr,
+        ),
+        Answer::Silent => {}
+        _ => registers::save_one(t, core, world, told(p, a)),
     }
 }

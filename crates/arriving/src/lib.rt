@@ -11,10 +11,10 @@ ghost use Rattle.arriving.specs.Arriving.{arriving};
 use cores::{Powers, Turns};
 use parsing::Status;
 use registers::Saved;
-use setup::{Setup, Verdict};
+use setup::Setup;
 
 // 21: whether the frame may come, there is such a core, and it is pending.
-fn judge_arrival(setup: &Setup, core: u64, powers: &Powers) -> Verdict
+fn judge_arrival(setup: &Setup, core: u64, powers: &Powers) -> Result<(), Status>
     ensures { result ≡ core_verdict setup.now core (is_pending (power powers.now core)) }
 {
     let power = cores::power_of(powers, core);
@@ -31,7 +31,7 @@ pub fn make_arrival(
 ) -> Status
     ensures { (core_tables saved.new powers.new turns.new, result) ≡ arriving setup.now (core_tables saved.old powers.old turns.old) core }
 {
-    let Verdict::Refused(why) = judge_arrival(setup, core, powers) else {
+    let Err(why) = judge_arrival(setup, core, powers) else {
         calls::arrive(core, saved, powers, turns);
         return Status::Accepted;
     };

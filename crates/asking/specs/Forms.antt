@@ -12,7 +12,7 @@ use Rattle.words.specs.Words as w
 use Rattle.phrases.specs.Sentence.{◌▹◌}
 use Rattle.phrases.specs.declared.Piece.TheVariants.{Word, Number, Hex, Value}
 use Rattle.phrases.specs.declared.Sentence.{Sentence}
-use Rattle.asking.specs.Names.{named, counted}
+use Rattle.asking.specs.Names.{named, counted, names}
 use Rattle.asking.specs.declared.Given.{Given}
 use Rattle.asking.specs.declared.Known.TheVariants.{Attributes}
 
@@ -202,9 +202,9 @@ module _ (xs : List ℕ) (q : Request) (e : q ≡ request_of xs) where
   unfolding done_word
   done_known f = picked _ _ _ _ (eq-eqb _ _ (rw e at f)) refl
 
-  pub done_power : (q.key ≡ features → ⊥) → q.key ≡ power_features → w.known ≡ done_word xs
-  unfolding done_word
-  done_power n f = passed _ _ _ _ (ne_eqb _ _ (rw e at n)) (picked _ _ _ _ (eq-eqb _ _ (rw e at f)) refl)
+  pub done_power : q.key ≡ power_features → w.known ≡ done_word xs
+  unfolding done_word pick
+  done_power f = let z : (request_of xs).key ≡ power_features = rw e at f in rw z
 
   pub done_other : (q.key ≡ features → ⊥) → (q.key ≡ power_features → ⊥) → w.granted ≡ done_word xs
   unfolding done_word
@@ -213,3 +213,5 @@ module _ (xs : List ℕ) (q : Request) (e : q ≡ request_of xs) where
 pub ruleset slotting = (register_row, register_last, slot_none, slot_some, all_slots, asks_number, asks_so)
 
 pub ruleset dones = (done_known, done_power, done_other)
+
+pub ruleset laws = (names, slotting, dones)

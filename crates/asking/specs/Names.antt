@@ -1,8 +1,7 @@
 -- Numbers that have names, and numbers of things.
-use Rattle.std.specs.Prelude.{◌≡◌, ℕ, ◌+◌, ◌≤◌, ◌<◌, ltb, eqb}
-use Rattle.std.proofs.Math.Bool.{true, false}
+use Rattle.std.specs.Prelude.{◌≡◌, refl, ℕ, ◌+◌, ◌≤◌, ◌<◌, ltb, eqb}
 use Rattle.std.proofs.Common.{lt-ltb, le-ltb, eq-eqb, ne_eqb}
-use Rattle.rules.specs.Choice.{pick, picked, passed, pick_yes, pick_no}
+use Rattle.rules.specs.Choice.{pick, picked, passed}
 use Rattle.rules.specs.Sizes.{worlds}
 use Rattle.words.specs.Words as w
 use Rattle.phrases.specs.Sentence.{◌▹◌}
@@ -39,13 +38,14 @@ module _ (s r : Sentence) (x : ℕ) where
   pub name_by : (k l : Known) → k ≡ l → r ≡ named s l x → r ≡ named s k x
   name_by k l e h = rw e h
 
-  module _ (one many : ℕ) (t : Sentence) (e : t ≡ (s ▹ Number x)) where
-    pub count_one : x ≡ 1 → r ≡ (t ▹ Word one) → r ≡ counted s x one many
-    unfolding counted
-    count_one h f = rw (eq-eqb x 1 h, pick_yes true one many, ← e) f
+  pub counts : (one many k : ℕ) (t : Sentence) → t ≡ (s ▹ Number x) → k ≡ pick (eqb x 1) one many → r ≡ (t ▹ Word k) → r ≡ counted s x one many
+  unfolding counted
+  counts one many k t e f h = rw (← e, ← f) h
 
-    pub count_many : (x ≡ 1 → ⊥) → r ≡ (t ▹ Word many) → r ≡ counted s x one many
-    unfolding counted
-    count_many h f = rw (ne_eqb x 1 h, pick_no false one many, ← e) f
+pub one_thing : (x one many : ℕ) → x ≡ 1 → one ≡ pick (eqb x 1) one many
+one_thing x one many h = picked _ _ _ _ (eq-eqb x 1 h) refl
 
-pub ruleset names = (name_known, name_other, name_by, count_one, count_many)
+pub many_things : (x one many : ℕ) → (x ≡ 1 → ⊥) → many ≡ pick (eqb x 1) one many
+many_things x one many h = passed _ _ _ _ (ne_eqb x 1 h) refl
+
+pub ruleset names = (name_known, name_other, name_by, counts, one_thing, many_things)

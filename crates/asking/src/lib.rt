@@ -1,5 +1,5 @@
 // What a call asks, in words: a row of one table for each call, and the same sentence for every row.
-#![tactic(auto)]
+#![tactic(auto, using(crate::specs::Forms::laws))]
 
 ghost use Rattle.std.specs.Prelude.{◌≡◌, ◌<◌};
 ghost use Rattle.asking.specs.Names.{named_from, named, counted};
@@ -36,6 +36,7 @@ pub struct Given {
 
 // How an argument is told: not at all, by its word alone, or behind its word in decimal digits, as an address, as a value, as
 // so many pages, as so many bytes, or as attributes.
+// No enum: `forms`, `row_at` and `valued` of specs/ have these numbers.
 const NONE: u64 = 0;
 
 const ALONE: u64 = 1;
@@ -55,7 +56,7 @@ const AS_ATTRS: u64 = 7;
 // How many rows there are before that of all other calls.
 const ROWS: usize = 20;
 
-// The call of each row.
+// The call of each row. With its form in one struct, the proofs of `key_at` and `row_at` didn't close.
 const KEYS: [u64; ROWS + 1] = [
     names::VERSION as u64,
     names::FEATURES as u64,
@@ -133,9 +134,10 @@ fn name_from(s: Sentence, first: u64, count: u64, other: u64, x: u64) -> Sentenc
     ensures { result ≡ named_from s first count other x }
 {
     if x < count {
-        return s.with(Piece::Word(first + x));
+        s.with(Piece::Word(first + x))
+    } else {
+        s.with(Piece::Word(other)).with(Piece::Number(x))
     }
-    s.with(Piece::Word(other)).with(Piece::Number(x))
 }
 
 // A number by its name.
@@ -154,11 +156,8 @@ pub fn name(s: Sentence, k: Known, x: u64) -> Sentence
 pub fn count(s: Sentence, x: u64, one: u64, many: u64) -> Sentence
     ensures { result ≡ counted s x one many }
 {
-    let t = s.with(Piece::Number(x));
-    if x == 1 {
-        return t.with(Piece::Word(one));
-    }
-    t.with(Piece::Word(many))
+    let word = if x == 1 { one } else { many };
+    s.with(Piece::Number(x)).with(Piece::Word(word))
 }
 
 // The call of row k.
@@ -181,19 +180,16 @@ fn row_at(k: usize) -> [u64; 15]
 fn form(key: u64) -> [u64; 15]
     ensures { result ≡ form key }
 {
-    let mut k: usize = 0;
-    let mut unseen = ROWS;
-    while 0 < unseen {
+    for k in 0..ROWS {
         if key_at(k) == key {
             return row_at(k);
         }
-        k += 1;
-        unseen -= 1;
     }
-    row_at(k)
+    row_at(ROWS)
 }
 
 // What stands in a register.
+#[tactic(auto, using(crate::specs::Forms::laws), unfolding(crate::specs::Forms::register, rules::specs::Choice::pick))]
 fn register(i: u64, g: Given) -> u64
     ensures { result ≡ register i g }
 {
@@ -208,6 +204,7 @@ fn register(i: u64, g: Given) -> u64
 }
 
 // An argument as its row has it told.
+#[tactic(auto, using(crate::specs::Forms::laws), unfolding(crate::specs::Forms::valued, rules::specs::Choice::pick))]
 fn value(s: Sentence, how: u64, x: u64) -> Sentence
     ensures { result ≡ valued s how x }
 {
@@ -269,11 +266,8 @@ pub fn done_word(x: &[u64; 8]) -> u64
     ensures { result ≡ done_word x.now }
 {
     let q = judging::read_call(x);
-    if q.key == names::FEATURES {
-        return w::KNOWN;
+    match q.key {
+        names::FEATURES | names::POWER_FEATURES => w::KNOWN,
+        _ => w::GRANTED,
     }
-    if q.key == names::POWER_FEATURES {
-        return w::KNOWN;
-    }
-    w::GRANTED
 }

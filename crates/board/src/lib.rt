@@ -12,8 +12,8 @@ ghost use Rattle.judgements.specs.Read.{args_by};
 
 use cores::Powers;
 use judgements::{Answer, Args, Caller, Deed, Judged, grant, names, read_args, refuse};
-use mapping::{Lead, Lists, Mapping, Verdict};
-use pages::{Owners, Place};
+use mapping::{Grant, Lead, Lists, Mapping};
+use pages::Owners;
 use rules::Reason;
 
 // Whether an address lies in a page of the caller's.
@@ -21,7 +21,7 @@ fn own_page(v: Caller, owners: &Owners, a: Args) -> Judged
     ensures { result ≡ owning owners.now (page_of v.window a.x1) v.world }
 {
     let w = v.window;
-    let Place::Page(page) = w.page_of(a.x1) else {
+    let Some(page) = w.page_of(a.x1) else {
         return refuse(Reason::Invalid);
     };
     grant(
@@ -36,9 +36,9 @@ fn map_wanted(v: Caller, owners: &Owners, lists: &Lists, m: Mapping) -> Judged
 {
     let w = v.window;
     match mapping::judge_map(lists, owners, w, v.world, m) {
-        Verdict::Granted => grant(Answer::Done, Deed::Map(m)),
-        Verdict::Nothing => grant(Answer::Done, Deed::Nothing),
-        Verdict::No(r) => refuse(r),
+        Ok(Grant::Hold) => grant(Answer::Done, Deed::Map(m)),
+        Ok(Grant::Nothing) => grant(Answer::Done, Deed::Nothing),
+        Err(r) => refuse(r),
     }
 }
 
@@ -70,8 +70,8 @@ fn where_leads(v: Caller, lists: &Lists, a: Args) -> Judged
     ensures { result ≡ leading (lead_of (held lists.now v.world) a.x1) }
 {
     match mapping::lead_of(lists, v.world, a.x1) {
-        Lead::To { phys, attr } => grant(Answer::Leads { phys, attr }, Deed::Nothing),
-        Lead::Nowhere => refuse(Reason::Nowhere),
+        Some(Lead { phys, attr }) => grant(Answer::Leads { phys, attr }, Deed::Nothing),
+        None => refuse(Reason::Nowhere),
     }
 }
 

@@ -17,13 +17,6 @@ use rules::PAGE_SIZE;
 // How many entries a table has.
 const ENTRIES: u64 = 512;
 
-// What becomes of a build: so many tables, or nothing is written since they do not fit.
-#[derive(Clone, Copy)]
-pub enum Built {
-    Tables(u64),
-    NoRoom,
-}
-
 // Where the addresses of entry i start.
 fn part_of(level: u64, a: u64, i: u64) -> u64
     requires { Inside level a × (i < 512) }
@@ -33,6 +26,7 @@ fn part_of(level: u64, a: u64, i: u64) -> u64
 }
 
 // How many entries from the one at b on no mapping touches, of so many: none where one touches that entry.
+#[tactic(auto, using(crate::specs::Gaps::gaps))]
 fn gap_of(lists: &Lists, world: u64, level: u64, b: u64, most: u64) -> u64
     requires { (0 < most) × (most ≤ 512) }
     ensures { Gap (held lists.now world) level b most result }
@@ -48,8 +42,10 @@ fn gap_of(lists: &Lists, world: u64, level: u64, b: u64, most: u64) -> u64
     n
 }
 
-// How many tables the addresses of a table take. Entries that nothing touches are passed over.
+// How many tables the addresses of a table take. Entries that nothing touches are passed over: this loop and the two below are a
+// while, since i goes on by whole gaps.
 #[cycle(below_of_tables_of)]
+#[tactic(auto, using(crate::specs::Writing::counting))]
 fn tables_of(lists: &Lists, world: u64, level: u64, a: u64) -> u64
     requires { Inside level a }
     ensures { result ≡ tables (held lists.now world) level a }
@@ -72,6 +68,7 @@ fn tables_of(lists: &Lists, world: u64, level: u64, a: u64) -> u64
 
 // How many of them stand below an entry.
 #[cycle(below_of_tables_of)]
+#[tactic(auto, using(crate::specs::Writing::counting))]
 fn below_of(lists: &Lists, world: u64, level: u64, b: u64) -> u64
     requires { InsidePart level b }
     ensures { result ≡ below (held lists.now world) level b }
@@ -86,14 +83,14 @@ fn below_of(lists: &Lists, world: u64, level: u64, b: u64) -> u64
 }
 
 // Puts a number at a place; past the end nothing changes.
+#[tactic(auto, using(crate::specs::Writing::writing))]
 fn put(numbers: &mut [u64], at: u64, v: u64)
     ensures { numbers.new ≡ set numbers.old at v }
 {
     let i = at as usize;
-    if numbers.len() <= i {
-        return;
+    if i < numbers.len() {
+        numbers[i] = v;
     }
-    numbers[i] = v;
 }
 
 // Puts n zeros from a place on.
@@ -101,10 +98,8 @@ fn clear(numbers: &mut [u64], at: u64, n: u64)
     requires { (at ≤ 134480896) × (n ≤ 512) }
     ensures { numbers.new ≡ laid numbers.old at (rows nil n) }
 {
-    let mut i = 0;
-    while i < n {
+    for i in 0..n {
         put(numbers, at + i, 0);
-        i += 1;
     }
 }
 
@@ -165,16 +160,17 @@ fn write_limb(numbers: &mut [u64], lists: &Lists, world: u64, level: u64, b: u64
     t
 }
 
-// Builds the tables of the world's mappings, from the first of the numbers on. Numbers past the tables stay; where the tables
-// do not fit, all do.
-pub fn build(numbers: &mut [u64], lists: &Lists, world: u64) -> Built
+// Builds the tables of the world's mappings, from the first of the numbers on, and says how many they are. Numbers past the tables
+// stay; where the tables do not fit, all do, and there is no count.
+#[tactic(auto, using(crate::specs::Built::outcomes))]
+pub fn build(numbers: &mut [u64], lists: &Lists, world: u64) -> Option<u64>
     ensures { (result, numbers.new) ≡ built (held lists.now world) numbers.old }
 {
     let count = tables_of(lists, world, 2, 0);
     let room = numbers.len() as u64;
     if room < ENTRIES * count {
-        return Built::NoRoom;
+        return None;
     }
     write_tree(numbers, lists, world, 2, 0, 0);
-    Built::Tables(count)
+    Some(count)
 }

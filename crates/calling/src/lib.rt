@@ -15,15 +15,8 @@ use mapping::Lists;
 use pages::Owners;
 use parsing::Status;
 use registers::Saved;
-use setup::{Setup, Verdict};
+use setup::Setup;
 use showing::Reply;
-
-// What becomes of the frame of a call: it is refused, or who called and what was answered.
-#[derive(Clone, Copy)]
-pub enum Tried {
-    Refused(Status),
-    Called(Made),
-}
 
 // What set-up has fixed for the calls.
 fn site_of(setup: &Setup) -> Site
@@ -37,7 +30,7 @@ fn site_of(setup: &Setup) -> Site
 }
 
 // 20: whether the frame may come, there is such a core, and it is ON. That is asked first, so that all behind it knows of the core.
-fn judge_call(setup: &Setup, core: u64, powers: &Powers) -> Verdict
+fn judge_call(setup: &Setup, core: u64, powers: &Powers) -> Result<(), Status>
     ensures { result ≡ core_verdict setup.now core (is_on (power powers.now core)) }
 {
     let power = cores::power_of(powers, core);
@@ -48,6 +41,7 @@ fn judge_call(setup: &Setup, core: u64, powers: &Powers) -> Verdict
 }
 
 // Frame 20: a call on a core that is ON. Set-up ends first, and is not looked at again.
+// C lends each table by a pointer of its own (chiarumbeta_lent_call), so they come one by one.
 pub fn try_call(
     setup: &mut Setup,
     core: u64,
@@ -58,16 +52,13 @@ pub fn try_call(
     powers: &mut Powers,
     turns: &mut Turns,
     lists: &mut Lists,
-) -> Tried
+) -> Result<Made, Status>
     ensures { on_state (site_of setup.old) book owners saved powers turns lists (λ (w w' : State). ((setup.new, w'), result) ≡ trying setup.old w core x.now) }
 {
-    let Verdict::Refused(why) = judge_call(setup, core, powers) else {
-        let site = site_of(setup);
-        setup::end(setup);
-        let made = calls::call(site, core, x, book, owners, saved, powers, turns, lists);
-        return Tried::Called(made);
-    };
-    Tried::Refused(why)
+    judge_call(setup, core, powers)?;
+    let site = site_of(setup);
+    setup::end(setup);
+    Ok(calls::call(site, core, x, book, owners, saved, powers, turns, lists))
 }
 
 // Frame 20, and what is shown after it.
@@ -86,7 +77,7 @@ pub fn make_call(
 {
     let tried = try_call(setup, core, x, book, owners, saved, powers, turns, lists);
     match tried {
-        Tried::Refused(why) => Reply::Told(why),
-        Tried::Called(_) => showing::show(core, saved, powers, turns),
+        Err(why) => Reply::Told(why),
+        Ok(_) => showing::show(core, saved, powers, turns),
     }
 }

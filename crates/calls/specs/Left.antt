@@ -1,6 +1,8 @@
 -- What a call leaves of mappings, of power and of what runs, by its deed; and what the caller's x0 tells of the deed.
-use Rattle.std.specs.Prelude.{◌≡◌, refl, true, List, ℕ, ◌≤◌, ◌<◌, length, get_or}
+use Rattle.std.specs.Prelude.{◌≡◌, refl, true, List, ℕ, ◌≤◌, ◌<◌, length, get_or, Option}
 use Rattle.std.proofs.Common.{sym, ap, ◌∙◌, arith}
+use Rattle.mapping.specs.Leads.{To}
+use Rattle.mapping.specs.declared.Lead.{Lead}
 use Rattle.rules.specs.declared.Reason.{Reason}
 use Rattle.registers.specs.Registers.{Whole, saved}
 use Rattle.cores.specs.Power.{power_of, put, pending, off, is_on, started, started_off, gone_off, gone_off_on, handed, finished}
@@ -14,8 +16,6 @@ use Rattle.ranges.specs.declared.Mapping.{Mapping}
 use Rattle.rules.specs.Sizes.{normal, most_cores}
 use Rattle.judgements.specs.Judge.{called_by}
 use Rattle.judgements.proofs.Grounds.{grounded}
-use Rattle.mapping.specs.declared.Lead.{Lead}
-use Rattle.mapping.specs.declared.Lead.TheVariants.{To}
 use Rattle.judgements.specs.Decided.{Decided, done, refused, TellsLead, leads, leads_not}
 use Rattle.judgements.specs.declared.Answer.TheVariants.{Done, Leads, Silent, No}
 use Rattle.judgements.specs.declared.Deed.{Deed}
@@ -48,7 +48,7 @@ module _ (s : State) (core : ℕ) (xs : List ℕ) (w : Whole s.saved) (h : core 
   leads_zero phys attr e = own_results s core xs 0 w h k (rw e (omega arith)) ∙ rw e
 
   -- The address stands in x1, and its attributes in x2.
-  pub zero_leads : (l : Lead) → TellsLead l (judged_in s core xs) → x 0 ≡ 0 → l ≡ To (x 1) (x 2)
+  pub zero_leads : (l : Option Lead) → TellsLead l (judged_in s core xs) → x 0 ≡ 0 → l ≡ To (x 1) (x 2)
   zero_leads l (leads phys attr e f) z =
       let a : x 1 ≡ phys = own_results s core xs 1 w h k (rw f (omega arith)) ∙ rw f in
       let b : x 2 ≡ attr = own_results s core xs 2 w h k (rw f (omega arith)) ∙ rw f in

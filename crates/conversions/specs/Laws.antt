@@ -1,14 +1,16 @@
 -- How the code meets the definitions: one law for each branch and each pass of a loop.
-use Rattle.std.specs.Prelude.{◌≡◌, true, false, List, ltb, length, get_or, set}
+use Rattle.std.specs.Prelude.{◌≡◌, Bool, ◌||◌, List, ltb, length, get_or, set, min}
+use Rattle.std.specs.List.{list_any, range_with_len}
 use Rattle.std.proofs.Math.Path.{refl, ap}
-use Rattle.std.proofs.Common.{sym, ◌∙◌, mod-eq_of_lt, eq-or-lt_of_le, ⊎_elim, add-one, length-set, lt-ltb, le-ltb}
+use Rattle.std.proofs.Common.{sym, ◌∙◌, mod-eq_of_lt, eq-or-lt_of_le, ⊎_elim, add-one, length-set, lt-ltb, le-ltb, ltb-true, ltb-false}
 use Prim.Native.Nat.{ℕ, zero, suc, ◌+◌, ◌-◌, ◌*◌, ◌/◌, ◌%◌, ◌^◌, ◌≤◌, ◌<◌}
 use Rattle.std.proofs.Math.Nat.{pow-suc}
 use native.Mathlib.Omega.{arith}
 use Rattle.std.proofs.Math.ListN.{get_or-eq_default}
 use Rattle.std.proofs.lemmas.List.Edits.{sets-eq}
 use Rattle.rules.specs.Sizes.{last_world}
-use Rattle.rules.specs.Choice.{picked, passed, chosen}
+use Rattle.rules.specs.Choice.{picked, passed, chosen, either}
+use Rattle.tools.specs.Search.{any}
 use Rattle.tools.specs.Laid.{laid, laid_past}
 use Rattle.marks.specs.Digits.{digit, put, zero_digit, put_same, put_other, put_fits, same_digits}
 use Rattle.marks.specs.Owners.{mark_of, owner_of}
@@ -23,15 +25,17 @@ pub byte_past : (bytes : List ℕ) (page : ℕ) → length bytes ≤ page → 0 
 unfolding byte_of
 byte_past bytes page h = sym (get_or-eq_default bytes 0 h)
 
+-- ---- a test of each number of a range
+pub any_listed : (p : ℕ → Bool) (a n : ℕ) → list_any p (range_with_len a n) ≡ any p a n
+unfolding any
+any_listed p a zero = refl
+any_listed p a (suc n) = rw add-one (ap (λ (b : Bool). p a || b) (any_listed p (suc a) n))
+
 -- ---- 89
 module _ (bytes : List ℕ) (page w : ℕ) (e : w ≡ byte_of bytes page) where
-  pub byte_stray : last_world < w → stray_byte bytes page ≡ true
+  pub byte_judged : ltb last_world w ≡ stray_byte bytes page
   unfolding stray_byte
-  byte_stray h = rw (← e) (lt-ltb last_world w h)
-
-  pub byte_owner : w ≤ last_world → stray_byte bytes page ≡ false
-  unfolding stray_byte
-  byte_owner h = rw (← e) (le-ltb last_world w h)
+  byte_judged = rw (← e) refl
 
 module _ (numbers : List ℕ) (page m : ℕ) (e : m ≡ mark_in numbers page) where
   pub mark_of_page : (n w : ℕ) → page < n → w ≡ owner_of m → ltb last_world w ≡ stray_mark n numbers page
@@ -46,9 +50,9 @@ module _ (numbers : List ℕ) (page m : ℕ) (e : m ≡ mark_in numbers page) wh
   unfolding byte_for
   byte_by w f = rw (← e) f
 
-pub mark_read : (numbers : List ℕ) (page i m : ℕ) → i ≡ page / 16 → m ≡ digit (get_or numbers i 0) (page % 16) → m ≡ mark_in numbers page
+pub mark_read : (numbers : List ℕ) (page x m : ℕ) → x ≡ get_or numbers (page / 16) 0 → m ≡ digit x (page % 16) → m ≡ mark_in numbers page
 unfolding mark_in
-mark_read numbers page i m e f = rw (← e) f
+mark_read numbers page x m e f = rw (← e) f
 
 pub mark_missing : (numbers : List ℕ) (page i : ℕ) → i ≡ page / 16 → length numbers ≤ i → 0 ≡ mark_in numbers page
 unfolding mark_in
@@ -146,29 +150,32 @@ module _ (f : ℕ → ℕ) (small : (page : ℕ) → f page < 16) (i : ℕ) wher
       (λ place h. filled_here 0 0 16 place (omega arith) (omega arith) (omega arith) ∙ sym (gathered_digit f small (16 * i) 16 place h))
 
 -- the loop over them
-filled_next : (f : ℕ → ℕ) (x page k : ℕ) → 0 < k → filled f x page k ≡ filled f (put x (page % 16) (f page)) (page + 1) (k - 1)
+filled_next : (f : ℕ → ℕ) (x page end : ℕ) → page < end → filled f x page (end - page) ≡ filled f (put x (page % 16) (f page)) (page + 1) (end - (page + 1))
 unfolding filled
-filled_next f x page zero h = absurd (omega arith)
-filled_next f x page (suc k) h = let q : suc k - 1 ≡ k = omega arith in rw (q, add-one)
+filled_next f x page end h =
+    let q : end - page ≡ suc (end - (page + 1)) = omega arith in
+    rw q (rw add-one)
 
-filled_none : (f : ℕ → ℕ) (x page k : ℕ) → k ≤ 0 → filled f x page k ≡ x
+filled_none : (f : ℕ → ℕ) (x page end : ℕ) → end ≤ page → filled f x page (end - page) ≡ x
 unfolding filled
-filled_none f x page zero h = refl
-filled_none f x page (suc k) h = absurd (omega arith)
+filled_none f x page end h = let q : end - page ≡ 0 = omega arith in rw q
 
-pub number_starts : (n : ℕ) (bytes : List ℕ) (i : ℕ) → number_for n bytes i ≡ filled (mark_for n bytes) 0 (16 * i) 16
+pub number_starts : (n : ℕ) (bytes : List ℕ) (i : ℕ) → number_for n bytes i ≡ filled (mark_for n bytes) 0 (16 * i) (16 * i + 16 - 16 * i)
 unfolding number_for
-number_starts n bytes i = let z : 16 * i + 0 ≡ 16 * i = omega arith in sym (rw z at (filled_gathered (mark_for n bytes) (mark_for_small n bytes) i))
+number_starts n bytes i =
+    let z : 16 * i + 0 ≡ 16 * i = omega arith in
+    let q : 16 * i + 16 - 16 * i ≡ 16 = omega arith in
+    rw q (sym (rw z at (filled_gathered (mark_for n bytes) (mark_for_small n bytes) i)))
 
-module _ (n : ℕ) (bytes : List ℕ) (v x page k : ℕ) (e : v ≡ filled (mark_for n bytes) x page k) where
-  pub number_goes : (m y : ℕ) → 0 < k → m ≡ mark_for n bytes page → y ≡ put x (page % 16) (m % 16) → v ≡ filled (mark_for n bytes) y (page + 1) (k - 1)
+module _ (n : ℕ) (bytes : List ℕ) (v x page end : ℕ) (e : v ≡ filled (mark_for n bytes) x page (end - page)) where
+  pub number_goes : (m y : ℕ) → page < end → m ≡ mark_for n bytes page → y ≡ put x (page % 16) (m % 16) → v ≡ filled (mark_for n bytes) y (page + 1) (end - (page + 1))
   number_goes m y h f g =
       let s : m < 16 = rw f (mark_for_small n bytes page) in
       let z : m % 16 ≡ mark_for n bytes page = mod-eq_of_lt s ∙ f in
-      rw (g, z) (e ∙ filled_next (mark_for n bytes) x page k h)
+      rw (g, z) (e ∙ filled_next (mark_for n bytes) x page end h)
 
-  pub number_ends : k ≤ 0 → x ≡ v
-  number_ends h = sym (e ∙ filled_none (mark_for n bytes) x page k h)
+  pub number_ends : end ≤ page → x ≡ v
+  number_ends h = sym (e ∙ filled_none (mark_for n bytes) x page end h)
 
 -- ---- values laid over a space one by one
 pub length_listed : (f : ℕ → ℕ) (a k : ℕ) → length (listed f a k) ≡ k
@@ -176,34 +183,33 @@ unfolding listed
 length_listed f a zero = refl
 length_listed f a (suc k) = ap suc (length_listed f (suc a) k)
 
-laid_next : (f : ℕ → ℕ) (space : List ℕ) (i k : ℕ) → 0 < k → laid space i (listed f i k) ≡ laid (set space i (f i)) (i + 1) (listed f (i + 1) (k - 1))
+laid_next : (f : ℕ → ℕ) (space : List ℕ) (i n : ℕ) → i < n → laid space i (listed f i (n - i)) ≡ laid (set space i (f i)) (i + 1) (listed f (i + 1) (n - (i + 1)))
 unfolding laid listed
-laid_next f space i zero h = absurd (omega arith)
-laid_next f space i (suc k) h = let q : suc k - 1 ≡ k = omega arith in rw (q, add-one)
+laid_next f space i n h =
+    let q : n - i ≡ suc (n - (i + 1)) = omega arith in
+    rw q (rw add-one)
 
-laid_none : (f : ℕ → ℕ) (space : List ℕ) (i k : ℕ) → k ≤ 0 → laid space i (listed f i k) ≡ space
+laid_none : (f : ℕ → ℕ) (space : List ℕ) (i n : ℕ) → n ≤ i → laid space i (listed f i (n - i)) ≡ space
 unfolding laid listed
-laid_none f space i zero h = refl
-laid_none f space i (suc k) h = absurd (omega arith)
+laid_none f space i n h = let q : n - i ≡ 0 = omega arith in rw q
 
--- a loop has written some of the space o, which is p now: what is left, laid from place i on, makes w of it
-pub record Laying (o w p : List ℕ) (f : ℕ → ℕ) (i k : ℕ) : Type 0 where
+-- a loop over n places has written those before place i of the space o, which is p now: what is left, laid from there on, makes w of it
+pub record Laying (o w p : List ℕ) (f : ℕ → ℕ) (i n : ℕ) : Type 0 where
   pub long : length p ≡ length o
-  pub makes : w ≡ laid p i (listed f i k)
+  pub makes : w ≡ laid p i (listed f i (n - i))
 
-pub laying_starts : (o : List ℕ) (f : ℕ → ℕ) (k : ℕ) → Laying o (laid o 0 (listed f 0 k)) o f 0 k
-laying_starts o f k = record { long = refl; makes = refl }
+pub laying_starts : (o : List ℕ) (f : ℕ → ℕ) (n : ℕ) → Laying o (laid o 0 (listed f 0 n)) o f 0 n
+laying_starts o f n = record { long = refl; makes = let q : n - 0 ≡ n = omega arith in rw q }
 
-module _ (o w p : List ℕ) (f : ℕ → ℕ) (i k : ℕ) (l : Laying o w p f i k) where
-  pub laying_goes : (v : ℕ) → 0 < k → v ≡ f i → Laying o w (set p i v) f (i + 1) (k - 1)
-  laying_goes v h e = record { long = length-set p i v ∙ l.long; makes = l.makes ∙ laid_next f p i k h ∙ rw e refl }
+module _ (o w p : List ℕ) (f : ℕ → ℕ) (i n : ℕ) (l : Laying o w p f i n) where
+  pub laying_goes : (v : ℕ) → i < n → v ≡ f i → Laying o w (set p i v) f (i + 1) n
+  laying_goes v h e = record { long = length-set p i v ∙ l.long; makes = l.makes ∙ laid_next f p i n h ∙ rw e refl }
 
-  -- past the end nothing is written
-  pub laying_past : length p ≤ i → p ≡ w
-  laying_past h = sym (l.makes ∙ laid_past (listed f i k) p i h)
-
-  pub laying_ends : k ≤ 0 → p ≡ w
-  laying_ends h = sym (l.makes ∙ laid_none f p i k h)
+  -- it ends with the places, or with the space
+  pub laying_ends : min (length o) n ≤ i → p ≡ w
+  laying_ends h =
+      either (ltb i n) (λ y. let b = ltb-true i n y in let a = l.long in sym (l.makes ∙ laid_past (listed f i (n - i)) p i (omega arith)))
+      (λ z. sym (l.makes ∙ laid_none f p i n (ltb-false i n z)))
 
 -- ---- what is laid over the first places of a space that has so many is what is written there
 pub laid_written : (f : ℕ → ℕ) (k : ℕ) (space : List ℕ) → k ≤ length space → laid space 0 (listed f 0 k) ≡ written f k space

@@ -10,26 +10,17 @@ use rules::REALM;
 pub(crate) fn owner(bytes: &[u8], page: u64) -> u64
     ensures { result ≡ byte_of bytes.now page }
 {
-    if bytes.len() <= page as usize {
-        return 0;
+    match bytes.get(page as usize) {
+        Some(owner) => u64::from(*owner),
+        None => 0,
     }
-    tools::wide(bytes[page as usize])
 }
 
 // Whether one of the first n bytes is no owner.
 pub fn has_stray_byte(n: u32, bytes: &[u8]) -> bool
     ensures { result ≡ stray_bytes n bytes.now }
 {
-    let mut page: u64 = 0;
-    let mut unseen = n as u64;
-    while 0 < unseen {
-        if REALM < owner(bytes, page) {
-            return true;
-        }
-        page += 1;
-        unseen -= 1;
-    }
-    false
+    (0..u64::from(n)).any(|page| REALM < owner(bytes, page))
 }
 
 // The byte for a page: the owner with its mark.
@@ -39,18 +30,12 @@ fn byte_for(numbers: &[u64], page: u64) -> u8
     marks::owner_of(numbers::mark(numbers, page)) as u8
 }
 
-// Lays the owners of the first n pages over the bytes, as far as these reach.
+// Lays the owners of the first n pages over the bytes, as far as these reach. One function for both spaces would be no plainer: this
+// loop and that of `lay_numbers` differ in all that they say, the type, the count and the item.
 pub fn lay_bytes(n: u32, numbers: &[u64], bytes: &mut [u8])
     ensures { bytes.new ≡ laid bytes.old 0 (listed (byte_for numbers.now) 0 n) }
 {
-    let mut page: u64 = 0;
-    let mut unwritten = n as u64;
-    while 0 < unwritten {
-        if bytes.len() <= page as usize {
-            return;
-        }
-        bytes[page as usize] = byte_for(numbers, page);
-        page += 1;
-        unwritten -= 1;
+    for page in 0..bytes.len().min(n as usize) {
+        bytes[page] = byte_for(numbers, page as u64);
     }
 }

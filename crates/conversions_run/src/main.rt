@@ -11,75 +11,50 @@
 mod reading;
 mod spaces;
 
-ghost use Rattle.std.specs.Prelude.{◌≤◌, ◌<◌, length, IfOk};
-
-use reading::Line;
-use spaces::{Numbers, ROOM, say};
+use converting::Fault;
+use reading::{Conversion, Way};
+use signs::Signs;
 use std::io;
 
-// Converts the first places of each space.
-fn convert(l: Line, bytes: &mut [u8], held: usize, numbers: &mut [u64], counted: usize) -> u64 {
-    if bytes.len() < held {
-        return converting::CRAMPED;
-    }
-    if numbers.len() < counted {
-        return converting::CRAMPED;
-    }
-    if l.kind == b'p' {
-        return converting::pack(l.pages, &bytes[0..held], &mut numbers[0..counted]);
-    }
-    converting::unpack(l.pages, &numbers[0..counted], &mut bytes[0..held])
-}
-
-fn say_status(rt: &impl Print, status: u64) -> io::Result<()> {
-    match status {
-        converting::CONVERTED => say(rt, b": 00 converted; "),
-        converting::CRAMPED => say(
-            rt,
-            b": 88 not 1 to 4096 pages, or a space that is too small; ",
-        ),
-        _ => say(
-            rt,
-            b": 89 a byte or mark that is no owner, or padding that is not 0; ",
-        ),
+fn convert(c: &mut Conversion) -> Result<(), Fault> {
+    match c.way {
+        Way::Pack => converting::pack(c.pages, c.bytes.as_slice(), c.numbers.as_mut_slice()),
+        Way::Unpack => converting::unpack(c.pages, c.numbers.as_slice(), c.bytes.as_mut_slice()),
     }
 }
 
-fn play(rt: &impl Print, l: Line, read: &Numbers, numbers: &mut Numbers) -> io::Result<()> {
-    let mut bytes = spaces::narrow(read);
-    say_status(rt, convert(l, &mut bytes, l.bytes, numbers, l.numbers))?;
-    spaces::say_space(rt, &spaces::widen(&bytes), l.bytes)?;
-    say(rt, b"; ")?;
-    spaces::say_space(rt, numbers, l.numbers)?;
-    say(rt, b"\n")
+// The status, and what it stands for.
+fn say_status(rt: &impl Print, outcome: Result<(), Fault>) -> io::Result<()> {
+    let (number, words) = match outcome {
+        Ok(()) => (0, "converted"),
+        Err(fault) => (u64::from(fault), words_of(fault)),
+    };
+    print!(rt; ": {number:02x} {words}; ")
 }
 
-// The conversion of a line. It answers where the next line begins.
-fn step(
-    rt: &impl Print,
-    text: &[u8],
-    at: usize,
-    bytes: &mut Numbers,
-    numbers: &mut Numbers,
-) -> io::Result<usize>
-    requires { at < length text.now }
-    ensures { IfOk result (λ next. (at < next) × (next ≤ length text.now)) }
-{
-    let l = reading::line_at(rt, text, at, bytes, numbers)?;
-    if l.is_whole() {
-        play(rt, l, bytes, numbers)?;
-    } else {
-        say(rt, b": no conversion\n")?;
+fn words_of(fault: Fault) -> &'static str {
+    match fault {
+        Fault::Cramped => "not 1 to 4096 pages, or a space that is too small",
+        Fault::Stray => "a byte or mark that is no owner, or padding that is not 0",
     }
-    Ok(l.next)
+}
+
+fn play(rt: &impl Print, mut conversion: Conversion) -> io::Result<()> {
+    say_status(rt, convert(&mut conversion))?;
+    spaces::say(rt, conversion.bytes.as_slice())?;
+    print!(rt; "; ")?;
+    spaces::say(rt, conversion.numbers.as_slice())?;
+    println!(rt; "")
 }
 
 fn run(rt: &impl Print, text: &[u8]) -> io::Result<()> {
-    let mut bytes = [0u64; ROOM];
-    let mut numbers = [0u64; ROOM];
-    let mut at: usize = 0;
-    while at < text.len() {
-        at = step(rt, text, at, &mut bytes, &mut numbers)?;
+    let mut text = Signs { left: text };
+    while !text.left.is_empty() {
+        rt.write_all(text.through(b':'))?;
+        match reading::take_conversion(&mut text) {
+            Some(conversion) => play(rt, conversion)?,
+            None => println!(rt; ": no conversion")?,
+        }
     }
     Ok(())
 }

@@ -1,7 +1,7 @@
 -- How the code meets the two conversions: a law for each part of 88, and one for each outcome.
 use Rattle.std.specs.Prelude.{◌≡◌, Bool, true, false, ◌||◌, List, ℕ, ◌≤◌, ◌<◌, eqb, length}
 use Rattle.std.proofs.Math.Path.{refl, sym}
-use Rattle.std.proofs.Common.{◌∙◌, arith, ltb-false, lt-ltb, le-ltb, eq-eqb, ne_eqb}
+use Rattle.std.proofs.Common.{◌∙◌, ltb-false, lt-ltb, le-ltb, eq-eqb, ne_eqb}
 use Rattle.std.proofs.Math.Dec.{ltb}
 use Rattle.std.proofs.lemmas.Bool.{eqb-false}
 use Rattle.rules.specs.Sizes.{most_pages}
@@ -56,44 +56,40 @@ module _ (n bytes numbers : ℕ) where
     pub numbers_fit : numbers_for n ≤ numbers
     numbers_fit = ltb-false numbers (numbers_for n) (not_second (ltb bytes n) (ltb numbers (numbers_for n)) enough_space)
 
-pub ruleset crampings = (cramped_none, cramped_many, cramped_bytes, cramped_numbers, roomy)
-
 -- ---- the outcomes
-module _ (n : ℕ) (bytes numbers : List ℕ) (a : Bool) (e : a ≡ cramped n (length bytes) (length numbers)) where
-  pub pack_cramped : a ≡ true → (0x88, numbers) ≡ packed n bytes numbers
-  unfolding packed kept
-  pack_cramped y = stops _ _ _ _ _ _ (sym e ∙ y) refl
+module _ (n : ℕ) (bytes numbers : List ℕ) where
+  module _ (e : cramped n (length bytes) (length numbers) ≡ true) where
+    pub pack_cramped : (0x88, numbers) ≡ packed n bytes numbers
+    unfolding packed kept
+    pack_cramped = stops _ _ _ _ _ _ e refl
 
-  pub unpack_cramped : a ≡ true → (0x88, bytes) ≡ unpacked n numbers bytes
-  unfolding unpacked kept
-  unpack_cramped y = stops _ _ _ _ _ _ (sym e ∙ y) refl
+    pub unpack_cramped : (0x88, bytes) ≡ unpacked n numbers bytes
+    unfolding unpacked kept
+    unpack_cramped = stops _ _ _ _ _ _ e refl
 
-  module _ (r : a ≡ false) where
-    -- then the page count fits what the crate below takes
-    pub few_pages : n < 0x100000000
-    few_pages = let h = most_pages_lem n (length bytes) (length numbers) (sym e ∙ r) in omega arith
-
-    module _ (b : Bool) (f : b ≡ stray_bytes n bytes) where
+  -- the page count is one that was judged
+  module _ (m : ℕ) (k : m ≡ n) (e : cramped n (length bytes) (length numbers) ≡ false) (b : Bool) where
+    module _ (f : b ≡ stray_bytes m bytes) where
       pub pack_stray : b ≡ true → (0x89, numbers) ≡ packed n bytes numbers
       unfolding packed kept
-      pack_stray y = goes _ _ _ _ _ _ (sym e ∙ r) (stops _ _ _ _ _ _ (sym f ∙ y) refl)
+      pack_stray y = goes _ _ _ _ _ _ e (stops _ _ _ _ _ _ (rw k at (sym f ∙ y)) refl)
 
-      pub pack_done : (p : List ℕ) → b ≡ false → p ≡ laid numbers 0 (listed (number_for n bytes) 0 (numbers_for n)) → (0, p) ≡ packed n bytes numbers
+      pub pack_done : (p : List ℕ) → b ≡ false → p ≡ laid numbers 0 (listed (number_for m bytes) 0 (numbers_for m)) → (0, p) ≡ packed n bytes numbers
       unfolding packed
       pack_done p z g =
-          goes _ _ _ _ _ _ (sym e ∙ r)
-          (goes _ _ _ _ _ _ (sym f ∙ z) (ends _ _ _
-          (rw (g, laid_written (number_for n bytes) (numbers_for n) numbers (numbers_fit n (length bytes) (length numbers) (sym e ∙ r))))))
+          goes _ _ _ _ _ _ e
+          (goes _ _ _ _ _ _ (rw k at (sym f ∙ z)) (ends _ _ _
+          (rw (g, k, laid_written (number_for n bytes) (numbers_for n) numbers (numbers_fit n (length bytes) (length numbers) e)))))
 
-    module _ (b : Bool) (f : b ≡ stray_marks n numbers) where
+    module _ (f : b ≡ stray_marks m numbers) where
       pub unpack_stray : b ≡ true → (0x89, bytes) ≡ unpacked n numbers bytes
       unfolding unpacked kept
-      unpack_stray y = goes _ _ _ _ _ _ (sym e ∙ r) (stops _ _ _ _ _ _ (sym f ∙ y) refl)
+      unpack_stray y = goes _ _ _ _ _ _ e (stops _ _ _ _ _ _ (rw k at (sym f ∙ y)) refl)
 
-      pub unpack_done : (p : List ℕ) → b ≡ false → p ≡ laid bytes 0 (listed (byte_for numbers) 0 n) → (0, p) ≡ unpacked n numbers bytes
+      pub unpack_done : (p : List ℕ) → b ≡ false → p ≡ laid bytes 0 (listed (byte_for numbers) 0 m) → (0, p) ≡ unpacked n numbers bytes
       unfolding unpacked
       unpack_done p z g =
-          goes _ _ _ _ _ _ (sym e ∙ r)
-          (goes _ _ _ _ _ _ (sym f ∙ z) (ends _ _ _ (rw (g, laid_written (byte_for numbers) n bytes (bytes_fit n (length bytes) (length numbers) (sym e ∙ r))))))
+          goes _ _ _ _ _ _ e
+          (goes _ _ _ _ _ _ (rw k at (sym f ∙ z)) (ends _ _ _ (rw (g, k, laid_written (byte_for numbers) n bytes (bytes_fit n (length bytes) (length numbers) e)))))
 
 pub ruleset outcomes = (pack_cramped, pack_stray, pack_done, unpack_cramped, unpack_stray, unpack_done)

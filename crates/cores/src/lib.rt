@@ -11,6 +11,7 @@ use rules::{MOST_CORES, NORMAL, ROOT};
 // One core's power. The start address and the context are those of the call that made it pending.
 #[derive(Clone, Copy)]
 pub struct Power {
+    // OFF, PENDING or ON. A number and no enum, since a lent table may hold any, and the law `absent` of who calls speaks of it.
     pub state: u64,
     pub start: u64,
     pub context: u64,
@@ -23,12 +24,14 @@ impl Power {
 
     pub const ON: u64 = 2;
 
+    #[tactic(auto, unfolding(crate::specs::Power::is_on))]
     pub fn is_on(self) -> bool
         ensures { result ≡ is_on self }
     {
         self.state == Power::ON
     }
 
+    #[tactic(auto, unfolding(crate::specs::Power::is_pending))]
     pub fn is_pending(self) -> bool
         ensures { result ≡ is_pending self }
     {
@@ -39,31 +42,26 @@ impl Power {
     fn put(self, state: u64) -> Power
         ensures { result ≡ put self state }
     {
-        Power {
-            state: state,
-            start: self.start,
-            context: self.context,
-        }
+        Power { state, ..self }
     }
 
     // The start of a core: it becomes pending, unless it is ON or pending already.
+    #[tactic(auto, using(rules::specs::Tests::judgements, rules::specs::Tests::tests), unfolding(crate::specs::Power::started))]
     pub fn started(self, start: u64, context: u64) -> Power
         ensures { result ≡ started self start context }
     {
-        if self.is_on() {
-            return self;
-        }
-        if self.is_pending() {
+        if self.is_on() || self.is_pending() {
             return self;
         }
         Power {
             state: Power::PENDING,
-            start: start,
-            context: context,
+            start,
+            context,
         }
     }
 
     // The core goes OFF, if it is ON.
+    #[tactic(auto, using(rules::specs::Tests::judgements), unfolding(crate::specs::Power::gone_off))]
     pub fn gone_off(self) -> Power
         ensures { result ≡ gone_off self }
     {
@@ -74,6 +72,7 @@ impl Power {
     }
 
     // The core comes ON, if it is pending.
+    #[tactic(auto, using(rules::specs::Tests::judgements), unfolding(crate::specs::Power::arrived))]
     pub fn arrived(self) -> Power
         ensures { result ≡ arrived self }
     {
@@ -90,7 +89,7 @@ pub fn arrive(p: &mut Power) -> bool
 {
     let was = *p;
     *p = Power::arrived(was);
-    was.state == Power::PENDING
+    was.is_pending()
 }
 
 // What an arrival comes to: whether the core was pending, and its power now.
@@ -106,10 +105,7 @@ pub fn arrival(p: Power) -> Arriving
 {
     let mut lent = p;
     let came = arrive(&mut lent);
-    Arriving {
-        came: came,
-        power: lent,
-    }
+    Arriving { came, power: lent }
 }
 
 // Which world runs on a core.
@@ -157,6 +153,7 @@ pub fn fresh_powers() -> Powers
 }
 
 // At the start every core is set to run Normal.
+#[tactic(auto, using(crate::specs::Cores::first_turns_are))]
 pub fn fresh_turns() -> Turns
     ensures { result ≡ first_turns }
 {
@@ -164,6 +161,7 @@ pub fn fresh_turns() -> Turns
 }
 
 // The power of a core, OFF where there is no such core.
+#[tactic(auto, using(crate::specs::Cores::slots))]
 pub fn power_of(t: &Powers, core: u64) -> Power
     ensures { result ≡ power t.now core }
 {
@@ -183,6 +181,7 @@ pub fn power_of(t: &Powers, core: u64) -> Power
 }
 
 // The power of a core is now this, if there is such a core.
+#[tactic(auto, using(crate::specs::Cores::slots))]
 pub fn set_power(t: &mut Powers, core: u64, p: Power)
     ensures { t.new ≡ with_power t.old core p }
 {
@@ -196,6 +195,7 @@ pub fn set_power(t: &mut Powers, core: u64, p: Power)
 }
 
 // The turn of a core: no world that calls, where there is no such core.
+#[tactic(auto, using(crate::specs::Cores::slots))]
 pub fn turn_of(t: &Turns, core: u64) -> Turn
     ensures { result ≡ turn t.now core }
 {
@@ -208,6 +208,7 @@ pub fn turn_of(t: &Turns, core: u64) -> Turn
 }
 
 // The turn of a core is now this, if there is such a core.
+#[tactic(auto, using(crate::specs::Cores::slots))]
 pub fn set_turn(t: &mut Turns, core: u64, r: Turn)
     ensures { t.new ≡ with_turn t.old core r }
 {
@@ -218,31 +219,29 @@ pub fn set_turn(t: &mut Turns, core: u64, r: Turn)
 }
 
 // The digit of a core in the mask of those that are ON.
+#[tactic(auto, unfolding(crate::specs::Count::bit))]
 fn on_digit(t: &Powers, core: u64) -> u32
     ensures { (result ≡ bit (is_on (power t.now core))) × (result ≤ 1) }
 {
-    if power_of(t, core).is_on() {
-        return 1;
-    }
-    0
+    u32::from(power_of(t, core).is_on())
 }
 
 // The mask of the cores that are ON, core 0 in its lowest bit.
+#[tactic(auto, using(crate::specs::Cores::masked_none, crate::specs::Cores::masked_all))]
 fn on_mask(t: &Powers) -> u32
     ensures { result ≡ on_mask t.now }
 {
     let mut mask: u32 = 0;
-    let mut core = MOST_CORES;
-    while 0 < core {
-        core -= 1;
+    for core in (0..MOST_CORES).rev() {
         mask = on_digit(t, core) + 2 * mask;
     }
     mask
 }
 
 // How many cores are ON: the ones of the mask.
+#[tactic(auto, using(crate::specs::Cores::mask_counts, crate::specs::Cores::mask_few))]
 pub fn on_count(t: &Powers) -> u64
     ensures { result ≡ on_count t.now }
 {
-    u32::count_ones(on_mask(t)) as u64
+    u64::from(u32::count_ones(on_mask(t)))
 }

@@ -1,5 +1,6 @@
 -- What a report counts: the accepted calls of any number of runs, each by the world that called and what it was answered in x0.
-use Rattle.std.specs.Prelude.{Bool, ◌&&◌, List, [], ◌∷◌, ◌++◌, ℕ, eqb, length, get_or}
+use Rattle.std.specs.Prelude.{Bool, ◌&&◌, List, [], ◌∷◌, ◌++◌, ℕ, eqb, length, get_or, Err, Ok, Result}
+use Rattle.parsing.specs.declared.Status.{Status}
 use Rattle.rules.specs.Choice.{pick}
 use Rattle.judgements.specs.Judge.{called_by}
 use Rattle.answers.specs.Answers.{told}
@@ -10,8 +11,6 @@ use Rattle.parsing.specs.declared.Frame.TheVariants as Frame
 use Rattle.lines.specs.Meant.{meant}
 use Rattle.lines.specs.Input.{reading}
 use Rattle.calling.specs.Calling.{trying}
-use Rattle.calling.specs.declared.Tried.{Tried}
-use Rattle.calling.specs.declared.Tried.TheVariants as Tried
 use Rattle.frames.specs.Frames.{Machine, first, state_of, framed}
 use Rattle.tallies.specs.Tally.{noted}
 
@@ -35,9 +34,9 @@ abbrev pub counted_one : List ℕ → Made → Counted
 counted_one xs made = (made.caller, told (called_by xs) made.answer)
 
 -- of a call that was tried, if it was accepted
-abbrev pub counted_try : List ℕ → Tried → List Counted
-counted_try xs (Tried.Refused why) = []
-counted_try xs (Tried.Called made) = counted_one xs made ∷ []
+abbrev pub counted_try : List ℕ → Result Made Status → List Counted
+counted_try xs (Err why) = []
+counted_try xs (Ok made) = counted_one xs made ∷ []
 
 -- of a frame: only of a call
 abbrev pub counted_of : Machine → Frame → List ℕ → List Counted

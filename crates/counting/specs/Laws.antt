@@ -1,6 +1,6 @@
 -- How the code's branches meet the definitions of Counted: one law for each outcome. And what is kept after an input.
 use Rattle.std.proofs.Math.Path.{◌≡◌, sym, ap}
-use Rattle.std.specs.Prelude.{refl, Bool, true, false, eqb, length, get_or}
+use Rattle.std.specs.Prelude.{refl, Bool, true, false, eqb, length, get_or, Err, None, Ok, Option, Result, Some}
 use Rattle.std.proofs.Common.{◌∙◌, arith}
 use mathlib.Core.List.{List, [], ◌∷◌, ◌++◌}
 use Prim.Native.Nat.{ℕ, ◌<◌}
@@ -13,13 +13,6 @@ use Rattle.judgements.specs.Judge.{called_by}
 use Rattle.answers.specs.Answers.{told}
 use Rattle.calls.specs.Step.{State, state}
 use Rattle.calls.specs.declared.Made.{Made}
-use Rattle.ledger.specs.Ledger.{empty}
-use Rattle.registers.specs.Registers.{zeros}
-use Rattle.cores.specs.Cores.{first_powers, first_turns}
-use Rattle.pages.specs.Owners.{unowned}
-use Rattle.pages.specs.Named.{unnamed}
-use Rattle.mapping.specs.Lists.{unmapped}
-use Rattle.setup.specs.Table.{unset}
 use Rattle.parsing.specs.Frame.{is_call}
 use Rattle.parsing.specs.declared.Status.{Status}
 use Rattle.parsing.specs.declared.Frame.{Frame}
@@ -27,15 +20,11 @@ use Rattle.parsing.specs.declared.Frame.TheVariants as Frame
 use Rattle.lines.specs.Meant.{Blind, blind_by}
 use Rattle.lines.specs.Input.{reading_blind}
 use Rattle.calling.specs.Calling.{site_of, trying, calling}
-use Rattle.calling.specs.declared.Tried.{Tried}
-use Rattle.calling.specs.declared.Tried.TheVariants as Tried
 use Rattle.showing.specs.declared.Reply.{Reply}
 use Rattle.frames.specs.Frames.{Machine, machine, first, framed}
 use Rattle.inputs.specs.Folds.{folded}
 use Rattle.tallies.specs.Tally.{noted}
 use Rattle.counting.specs.Counted.{apart, meaning, Line, Counted, counted_try, counted_of, counted_in, Kept, noted_all, after_call, after_frame, after_line}
-use Rattle.counting.specs.declared.Whose.{Whose}
-use Rattle.counting.specs.declared.Whose.TheVariants as Whose
 
 -- ---- a line that stands between two runs
 module _ (l : List ℕ) where
@@ -60,26 +49,22 @@ pub meaning_blind : Blind meaning
 unfolding meaning
 meaning_blind l = rw (blind_by apart false long_apart l, reading_blind l)
 
--- ---- all tables as they are before the first frame
-pub cleared : (s n l o r p t k : List ℕ) → s ≡ unset → n ≡ unnamed → l ≡ empty → o ≡ unowned → r ≡ zeros → p ≡ first_powers → t ≡ first_turns → k ≡ unmapped → machine s n l o r p t k ≡ first
-cleared s n l o r p t k a b c d e f g h = rw (a, b, c, d, e, f, g, h)
-
 -- ---- whose call a frame is
-abbrev pub whose_of : Frame → Whose
-whose_of (Frame.Site base pages cores) = Whose.Nobody
-whose_of (Frame.Entry first last kind number) = Whose.Nobody
-whose_of (Frame.Name first count to) = Whose.Nobody
-whose_of (Frame.Call core) = Whose.Core core
-whose_of (Frame.Arrival core) = Whose.Nobody
-whose_of (Frame.Refused why) = Whose.Nobody
+abbrev pub whose_of : Frame → Option ℕ
+whose_of (Frame.Site base pages cores) = None
+whose_of (Frame.Entry first last kind number) = None
+whose_of (Frame.Name first count to) = None
+whose_of (Frame.Call core) = Some core
+whose_of (Frame.Arrival core) = None
+whose_of (Frame.Refused why) = None
 
-pub whose_call : (f : Frame) (core : ℕ) → f ≡ Frame.Call core → Whose.Core core ≡ whose_of f
+pub whose_call : (f : Frame) (core : ℕ) → f ≡ Frame.Call core → Some core ≡ whose_of f
 whose_call f core e = rw e
 
-pub whose_refused : (f : Frame) (why : Status) → f ≡ Frame.Refused why → Whose.Nobody ≡ whose_of f
+pub whose_refused : (f : Frame) (why : Status) → f ≡ Frame.Refused why → None ≡ whose_of f
 whose_refused f why e = rw e
 
-core_of : (f : Frame) (core : ℕ) → whose_of f ≡ Whose.Core core → f ≡ Frame.Call core
+core_of : (f : Frame) (core : ℕ) → whose_of f ≡ Some core → f ≡ Frame.Call core
 core_of (Frame.Site base pages cores) core e = cc
 core_of (Frame.Entry first last kind number) core e = cc
 core_of (Frame.Name first count to) core e = cc
@@ -87,7 +72,7 @@ core_of (Frame.Call c) core e = let z : c ≡ core = cc in rw z
 core_of (Frame.Arrival c) core e = cc
 core_of (Frame.Refused why) core e = cc
 
-nobody_counts : (f : Frame) → whose_of f ≡ Whose.Nobody → (m : Machine) (xs : List ℕ) → counted_of m f xs ≡ []
+nobody_counts : (f : Frame) → whose_of f ≡ None → (m : Machine) (xs : List ℕ) → counted_of m f xs ≡ []
 nobody_counts (Frame.Site base pages cores) e m xs = refl
 nobody_counts (Frame.Entry first last kind number) e m xs = refl
 nobody_counts (Frame.Name first count to) e m xs = refl
@@ -99,28 +84,28 @@ nobody_counts (Frame.Refused why) e m xs = refl
 pub parts_called : (xs : List ℕ) (i : Identifier) (p : Parts) → i ≡ identifier_of (get_or xs 0 0) → p ≡ parts i → p ≡ called_by xs
 parts_called xs i p e h = h ∙ ap parts e
 
-module _ (t xs : List ℕ) (tried : Tried) where
-  pub try_refused : (why : Status) → tried ≡ Tried.Refused why → t ≡ noted_all t (counted_try xs tried)
+module _ (t xs : List ℕ) (tried : Result Made Status) where
+  pub try_refused : (why : Status) → tried ≡ Err why → t ≡ noted_all t (counted_try xs tried)
   unfolding noted_all
   try_refused why e = rw e
 
-  pub try_noted : (made : Made) (n : ℕ) (p : Parts) (t' : List ℕ) → tried ≡ Tried.Called made → p ≡ called_by xs → n ≡ told p made.answer → t' ≡ noted t made.caller n → t' ≡ noted_all t (counted_try xs tried)
+  pub try_noted : (made : Made) (n : ℕ) (p : Parts) (t' : List ℕ) → tried ≡ Ok made → p ≡ called_by xs → n ≡ told p made.answer → t' ≡ noted t made.caller n → t' ≡ noted_all t (counted_try xs tried)
   unfolding noted_all
   try_noted made n p t' e d g h = rw (e, ← d, ← g) h
 
 pub ruleset tries_noted = (try_refused, try_noted)
 
-pub call_taken : (s xs t t' s' : List ℕ) (w w' : State) (core : ℕ) (tried : Tried) → ((s', w'), tried) ≡ trying s w core xs → t' ≡ noted_all t (counted_try xs tried) → ((s', w'), t') ≡ after_call s w t core xs
+pub call_taken : (s xs t t' s' : List ℕ) (w w' : State) (core : ℕ) (tried : Result Made Status) → ((s', w'), tried) ≡ trying s w core xs → t' ≡ noted_all t (counted_try xs tried) → ((s', w'), t') ≡ after_call s w t core xs
 unfolding after_call
 call_taken s xs t t' s' w w' core tried e h = rw (← e, h)
 
 -- ---- a frame
-module _ (f : Frame) (w : Whose) (is : w ≡ whose_of f) (c xs : List ℕ) where
-  pub frame_other : (m m' : Machine) (r : Reply) → w ≡ Whose.Nobody → (m', r) ≡ framed m f xs → (m', c) ≡ after_frame (m, c) f xs
+module _ (f : Frame) (w : Option ℕ) (is : w ≡ whose_of f) (c xs : List ℕ) where
+  pub frame_other : (m m' : Machine) (r : Reply) → w ≡ None → (m', r) ≡ framed m f xs → (m', c) ≡ after_frame (m, c) f xs
   unfolding after_frame noted_all
   frame_other m m' r e h = rw (← h, nobody_counts f (sym is ∙ e) m xs)
 
-  pub frame_call : (s n l o v p t k : List ℕ) (core : ℕ) → w ≡ Whose.Core core → (s' c' o' v' p' t' k' : List ℕ)
+  pub frame_call : (s n l o v p t k : List ℕ) (core : ℕ) → w ≡ Some core → (s' c' o' v' p' t' k' : List ℕ)
       → ((s', state (site_of s) l o' v' p' t' k'), c') ≡ after_call s (state (site_of s) l o v p t k) c core xs → (machine s' n l o' v' p' t' k', c') ≡ after_frame (machine s n l o v p t k, c) f xs
   unfolding after_call after_frame framed calling
   frame_call s n l o v p t k core e s' c' o' v' p' t' k' h =
@@ -129,7 +114,19 @@ module _ (f : Frame) (w : Whose) (is : w ≡ whose_of f) (c xs : List ℕ) where
       let b : c' ≡ noted_all c (counted_try xs (trying s (state (site_of s) l o v p t k) core xs).1) = ap (λ (q : (List ℕ × State) × List ℕ). q.1) h in
       rw (z, ← a, b)
 
-pub ruleset frames_taken = (frame_other, frame_call)
+  pub frame_is_call : (k k' : Kept) (core : ℕ) → w ≡ Some core → k' ≡ after_frame k (Frame.Call core) xs → k' ≡ after_frame k f xs
+  frame_is_call k k' core e h = rw (core_of f core (sym is ∙ e)) h
+
+pub ruleset frames_taken = (frame_other, frame_is_call)
+
+-- a call on the whole machine
+pub call_counted : (m : Machine) (c xs : List ℕ) (core : ℕ) (s' o' v' p' t' k' c' : List ℕ) (tried : Result Made Status)
+    → ((s', state (site_of m.setup) m.ledger o' v' p' t' k'), tried) ≡ trying m.setup (state (site_of m.setup) m.ledger m.owners m.saved m.powers m.turns m.lists) core xs
+    → c' ≡ noted_all c (counted_try xs tried) → (machine s' m.named m.ledger o' v' p' t' k', c') ≡ after_frame (m, c) (Frame.Call core) xs
+call_counted m c xs core s' o' v' p' t' k' c' tried e h =
+    let w = state (site_of m.setup) m.ledger m.owners m.saved m.powers m.turns m.lists in
+    frame_call (Frame.Call core) (Some core) refl c xs m.setup m.named m.ledger m.owners m.saved m.powers m.turns m.lists core refl s' c' o' v' p' t' k'
+    (call_taken m.setup xs c c' s' w (state (site_of m.setup) m.ledger o' v' p' t' k') core tried e h)
 
 -- ---- a line
 module _ (k k' : Kept) (between : Bool) (f : Frame) (xs : List ℕ) where

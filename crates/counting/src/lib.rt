@@ -2,30 +2,16 @@
 #![tactic(auto)]
 
 ghost use Rattle.std.specs.Prelude.{◌≡◌};
-ghost use Rattle.calls.specs.Step.{State, on_state};
 ghost use Rattle.judgements.specs.Judge.{called_by};
-ghost use Rattle.calling.specs.Calling.{site_of};
-ghost use Rattle.frames.specs.Frames.{Machine, on_machine, first};
-ghost use Rattle.counting.specs.Counted.{apart, counted_try, noted_all, after_call, after_frame, after_line};
+ghost use Rattle.counting.specs.Counted.{apart, counted_try, noted_all, after_frame, after_line};
 ghost use Rattle.counting.specs.Laws.{whose_of};
+ghost use Rattle.parsing.specs.declared.Frame.TheVariants.{Call};
 
-use calling::Tried;
-use cores::{Powers, Turns};
+use calls::Made;
+use frames::Machine;
 use identifiers::{Identifier, Parts};
-use ledger::Ledger;
-use mapping::Lists;
-use pages::{Named, Owners};
-use parsing::Frame;
-use registers::Saved;
-use setup::Setup;
+use parsing::{Frame, Status};
 use tallies::Tally;
-
-// Whose call a frame is.
-#[derive(Clone, Copy)]
-enum Whose {
-    Core(u64),
-    Nobody,
-}
 
 // Whether a line stands between two runs.
 pub fn is_apart(line: &[u8]) -> bool
@@ -40,49 +26,26 @@ pub fn is_apart(line: &[u8]) -> bool
     false
 }
 
-// All tables as they are before the first frame.
-fn clear(
-    setup: &mut Setup,
-    named: &mut Named,
-    book: &mut Ledger,
-    owners: &mut Owners,
-    saved: &mut Saved,
-    powers: &mut Powers,
-    turns: &mut Turns,
-    lists: &mut Lists,
-)
-    ensures { on_machine setup named book owners saved powers turns lists (λ (m m' : Machine). m' ≡ first) }
-{
-    *setup = setup::fresh();
-    *named = pages::fresh_named();
-    *book = ledger::fresh();
-    *owners = pages::fresh_owners();
-    *saved = registers::fresh();
-    *powers = cores::fresh_powers();
-    *turns = cores::fresh_turns();
-    *lists = mapping::fresh();
-}
-
 // The core of a call.
-fn core_of(frame: Frame) -> Whose
+fn core_of(frame: Frame) -> Option<u64>
     ensures { result ≡ whose_of frame }
 {
     match frame {
-        Frame::Site { base, pages, cores } => Whose::Nobody,
+        Frame::Site { base, pages, cores } => None,
         Frame::Entry {
             first,
             last,
             kind,
             handler,
-        } => Whose::Nobody,
+        } => None,
         Frame::Name {
             first,
             count,
             owner,
-        } => Whose::Nobody,
-        Frame::Call { core } => Whose::Core(core),
-        Frame::Arrival { core } => Whose::Nobody,
-        Frame::Refused(why) => Whose::Nobody,
+        } => None,
+        Frame::Call { core } => Some(core),
+        Frame::Arrival { core } => None,
+        Frame::Refused(why) => None,
     }
 }
 
@@ -95,10 +58,10 @@ fn parts_of(x: &[u64; 8]) -> Parts
 }
 
 // Notes a call, where it was accepted.
-fn note_try(t: &mut Tally, x: &[u64; 8], tried: Tried)
+fn note_try(t: &mut Tally, x: &[u64; 8], tried: Result<Made, Status>)
     ensures { t.new ≡ noted_all t.old (counted_try x.now tried) }
 {
-    let Tried::Called(made) = tried else {
+    let Ok(made) = tried else {
         return;
     };
     let caller = made.caller;
@@ -109,50 +72,33 @@ fn note_try(t: &mut Tally, x: &[u64; 8], tried: Tried)
 }
 
 // A call, noted where it is accepted.
-fn take_call(
-    setup: &mut Setup,
-    core: u64,
-    x: &[u64; 8],
-    tally: &mut Tally,
-    book: &Ledger,
-    owners: &mut Owners,
-    saved: &mut Saved,
-    powers: &mut Powers,
-    turns: &mut Turns,
-    lists: &mut Lists,
-)
-    ensures { on_state (site_of setup.old) book owners saved powers turns lists (λ (w w' : State). ((setup.new, w'), tally.new) ≡ after_call setup.old w tally.old core x.now) }
+fn take_call(core: u64, x: &[u64; 8], tally: &mut Tally, machine: &mut Machine)
+    ensures { (machine.new, tally.new) ≡ after_frame (machine.old, tally.old) (Call core) x.now }
 {
-    let tried = calling::try_call(setup, core, x, book, owners, saved, powers, turns, lists);
+    let Machine {
+        setup,
+        named: _,
+        ledger,
+        owners,
+        saved,
+        powers,
+        turns,
+        lists,
+    } = machine;
+    let tried = calling::try_call(setup, core, x, ledger, owners, saved, powers, turns, lists);
     note_try(tally, x, tried);
 }
 
 // One frame.
-fn take_frame(
-    frame: Frame,
-    x: &[u64; 8],
-    tally: &mut Tally,
-    setup: &mut Setup,
-    named: &mut Named,
-    book: &mut Ledger,
-    owners: &mut Owners,
-    saved: &mut Saved,
-    powers: &mut Powers,
-    turns: &mut Turns,
-    lists: &mut Lists,
-)
-    ensures { on_machine setup named book owners saved powers turns lists (λ (m m' : Machine). (m', tally.new) ≡ after_frame (m, tally.old) frame x.now) }
+fn take_frame(frame: Frame, x: &[u64; 8], tally: &mut Tally, machine: &mut Machine)
+    ensures { (machine.new, tally.new) ≡ after_frame (machine.old, tally.old) frame x.now }
 {
     let w = core_of(frame);
-    let Whose::Core(core) = w else {
-        let reply = frames::step(
-            frame, x, setup, named, book, owners, saved, powers, turns, lists,
-        );
+    let Some(core) = w else {
+        machine.step(frame, x);
         return;
     };
-    take_call(
-        setup, core, x, tally, book, owners, saved, powers, turns, lists,
-    );
+    take_call(core, x, tally, machine);
 }
 
 // One line: between two runs all is made fresh but the counts.
@@ -161,22 +107,13 @@ pub fn take_line(
     frame: Frame,
     x: &[u64; 8],
     tally: &mut Tally,
-    setup: &mut Setup,
-    named: &mut Named,
-    book: &mut Ledger,
-    owners: &mut Owners,
-    saved: &mut Saved,
-    powers: &mut Powers,
-    turns: &mut Turns,
-    lists: &mut Lists,
+    machine: &mut Machine,
 )
-    ensures { on_machine setup named book owners saved powers turns lists (λ (m m' : Machine). (m', tally.new) ≡ after_line (m, tally.old) (between, (frame, x.now))) }
+    ensures { (machine.new, tally.new) ≡ after_line (machine.old, tally.old) (between, (frame, x.now)) }
 {
     if between {
-        clear(setup, named, book, owners, saved, powers, turns, lists);
+        *machine = Machine::fresh();
         return;
     }
-    take_frame(
-        frame, x, tally, setup, named, book, owners, saved, powers, turns, lists,
-    );
+    take_frame(frame, x, tally, machine);
 }

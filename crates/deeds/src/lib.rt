@@ -76,6 +76,7 @@ fn give_back(t: &mut Saved, core: u64, caller: u64, x: &[u64; 8])
 }
 
 // Carries a deed out for the world that called, with its eight numbers.
+// C lends each table by a pointer of its own (chiarumbeta_lent_call), so they come one by one.
 pub fn do_deed(
     d: Deed,
     core: u64,

@@ -37,53 +37,51 @@ pub enum Descriptor {
 }
 
 // The bytes that one entry covers.
+#[tactic(auto, using(crate::specs::Numbers::sizes))]
 pub fn span_of(below: u64) -> u64
     ensures { result ≡ span below }
 {
-    if below == 0 {
-        return PAGE_SIZE;
+    match below {
+        0 => PAGE_SIZE,
+        1 => SLOT_SIZE,
+        _ => GIB_SIZE,
     }
-    if below == 1 {
-        return SLOT_SIZE;
-    }
-    GIB_SIZE
 }
 
 // How many whole spans of a level a number has. Here and in the next function each span stands as a constant, so that the compiler
 // makes no division of it.
+#[tactic(auto, using(crate::specs::Numbers::parts))]
 pub fn whole_of(below: u64, x: u64) -> u64
     ensures { result ≡ x / span below }
 {
-    if below == 0 {
-        return x / PAGE_SIZE;
+    match below {
+        0 => x / PAGE_SIZE,
+        1 => x / SLOT_SIZE,
+        _ => x / GIB_SIZE,
     }
-    if below == 1 {
-        return x / SLOT_SIZE;
-    }
-    x / GIB_SIZE
 }
 
 // What is left of it behind them.
+#[tactic(auto, using(crate::specs::Numbers::parts))]
 fn rest_of(below: u64, x: u64) -> u64
     ensures { result ≡ x % span below }
 {
-    if below == 0 {
-        return x % PAGE_SIZE;
+    match below {
+        0 => x % PAGE_SIZE,
+        1 => x % SLOT_SIZE,
+        _ => x % GIB_SIZE,
     }
-    if below == 1 {
-        return x % SLOT_SIZE;
-    }
-    x % GIB_SIZE
 }
 
 // Bits 1 to 0 of a page or a block.
+#[tactic(auto, using(crate::specs::Numbers::sizes))]
 fn kind_of(below: u64) -> u64
     ensures { (result ≡ kind_of below) × (result ≤ 3) }
 {
-    if below == 0 {
-        return TABLE_OR_PAGE;
+    match below {
+        0 => TABLE_OR_PAGE,
+        _ => BLOCK,
     }
-    BLOCK
 }
 
 // Bits 47 to 12 of a number, and zeros.
@@ -125,6 +123,7 @@ fn start_of(below: u64, number: u64) -> u64
 }
 
 // Where a page or block leads an address in it.
+#[tactic(auto, using(crate::specs::Meaning::meanings))]
 fn leaf_at(below: u64, address: u64, number: u64) -> Descriptor
     ensures { result ≡ leaf_at below address number }
 {
@@ -136,46 +135,38 @@ fn leaf_at(below: u64, address: u64, number: u64) -> Descriptor
 }
 
 // Whether the number leads to a table, by bits 1 to 0.
+#[tactic(auto, using(crate::specs::Meaning::meanings))]
 pub fn is_table(below: u64, number: u64) -> bool
     ensures { result ≡ is_table below number }
 {
-    if below == 0 {
-        return false;
-    }
-    number % 4 == TABLE_OR_PAGE
+    below != 0 && number % 4 == TABLE_OR_PAGE
 }
 
 // Whether it is the very number of the table, page or block that it leads to.
+#[tactic(auto, using(crate::specs::Meaning::meanings))]
 fn is_proper(below: u64, number: u64) -> bool
     ensures { result ≡ proper below number }
 {
     if is_table(below, number) {
         return number == table_number(base_of(number));
     }
-    if below <= 1 {
-        return number == leaf_number(below, start_of(below, number), attr_of(number));
-    }
-    false
+    below <= 1 && number == leaf_number(below, start_of(below, number), attr_of(number))
 }
 
 // Whether bit 0 is set and a part of the number has no meaning.
+#[tactic(auto, using(crate::specs::Meaning::meanings))]
 pub fn is_reserved(below: u64, number: u64) -> bool
     ensures { result ≡ reserved below number }
 {
-    if number % 2 == 0 {
-        return false;
-    }
-    !is_proper(below, number)
+    number % 2 != 0 && !is_proper(below, number)
 }
 
 // What the number says of an address that it covers.
+#[tactic(auto, using(crate::specs::Meaning::meanings))]
 pub fn meaning_of(below: u64, address: u64, number: u64) -> Descriptor
     ensures { result ≡ meaning below address number }
 {
-    if number % 2 == 0 {
-        return Descriptor::Nothing;
-    }
-    if is_reserved(below, number) {
+    if number % 2 == 0 || is_reserved(below, number) {
         return Descriptor::Nothing;
     }
     if is_table(below, number) {

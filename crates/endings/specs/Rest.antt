@@ -121,10 +121,7 @@ module _ (s : List ℕ) (page : ℕ) (v : Window) (is : v ≡ window s) where
   pub row_last : v.pages - page ≤ 64 → Stands End ≡ row_part s (page + 64)
   row_last h = row_past s (page + 64) v is (omega arith)
 
-  pub row_none : v.pages ≤ page → Stands End ≡ row_part s (page + 64)
-  row_none h = row_past s (page + 64) v is (omega arith)
-
-pub ruleset rows = (row_here, row_past, row_next, row_last, row_none)
+pub ruleset rows = (row_here, row_past, row_next, row_last)
 
 module _ (s o t l : List ℕ) (x r : Part) where
   pub next_stands : (y z : Thing) → x ≡ Stands y → z ≡ next s o t l y → r ≡ Stands z → r ≡ next_part s o t l x
@@ -150,6 +147,8 @@ module _ (s : List ℕ) (r : Sentence) where
   unfolding legend_said
   legend_no e h = passed _ _ _ _ e h
 
+pub ruleset legends = (legend_yes, legend_no)
+
 module _ (n s o t p u l : List ℕ) (x : Part) (at r : ℕ) (out out' : List ℕ) where
   pub line_stands : (y : Thing) (a : Sentence) → x ≡ Stands y → a ≡ said n s o t p u l y → (r, out') ≡ told out at (line_text a) → (r, out') ≡ told out at (part_line n s o t p u l x)
   line_stands y a e f h = h ∙ rw (e, f)
@@ -164,3 +163,5 @@ module _ (n s o t p u l : List ℕ) (x : Part) (at r : ℕ) (out out' : List ℕ
   line_row page v e f h = h ∙ rw (e, f)
 
 pub ruleset lines_put = (line_stands, line_page, line_legend, line_row)
+
+pub ruleset laws = (firsts, rows, nexts, legends, lines_put)

@@ -1,15 +1,14 @@
 -- What stands in an entry of a table, by the list of mappings and the addresses that the entry covers. A level is known by
 -- how many levels are below it: 0 for pages, 1 for slots of 2 MiB, 2 for GiBs.
-use Rattle.std.specs.Prelude.{ℕ, zero, suc, ◌+◌, ◌-◌, ◌*◌, ◌%◌, ◌^◌, Bool, true, false, not, ◌&&◌, List, ◌==◌, nat_le}
-use Rattle.std.proofs.Math.Option.{Option, none, some}
+use Rattle.std.specs.Prelude.{ℕ, zero, suc, ◌+◌, ◌-◌, ◌*◌, ◌%◌, ◌^◌, Bool, true, false, not, ◌&&◌, List, ◌==◌, nat_le, None, Option, Some}
 use Rattle.std.specs.Int.Count.{count_trailing_zeros}
+use Rattle.mapping.specs.Leads.{To}
+use Rattle.mapping.specs.declared.Lead.{Lead}
 use Rattle.rules.specs.Choice.{pick}
 use Rattle.rules.specs.Sizes.{page_size}
 use Rattle.tools.specs.Search.{all}
 use Rattle.ranges.specs.declared.Mapping.{Mapping}
 use Rattle.mapping.specs.Mapping.{deciding, lead_of, touched}
-use Rattle.mapping.specs.declared.Lead.{Lead}
-use Rattle.mapping.specs.declared.Lead.TheVariants.{To, Nowhere}
 use Rattle.descriptors.specs.Numbers.{span, leaf_number, table_number}
 
 -- ---- one mapping throughout a slot
@@ -20,8 +19,8 @@ same m n = m.virt == n.virt && (m.phys == n.phys && (m.size == n.size && m.attr 
 
 -- it is this mapping that decides
 unfoldable pub is_by : Mapping → Option Mapping → Bool
-is_by m none = false
-is_by m (some n) = same m n
+is_by m None = false
+is_by m (Some n) = same m n
 
 module _ (l : List Mapping) where
   -- the mapping decides page i of the slot that starts at b. The sum is cut to 64 bits, which in a slot of a table cuts nothing
@@ -45,8 +44,8 @@ allowed p = nat_le 21 (count_trailing_zeros 64 p)
 module _ (l : List Mapping) where
   -- the slot by the mapping that decides its first address
   unfoldable pub block_by : ℕ → Option Mapping → Bool
-  block_by b none = false
-  block_by b (some m) = allowed (physical m b) && throughout l m b
+  block_by b None = false
+  block_by b (Some m) = allowed (physical m b) && throughout l m b
 
   -- one mapping decides throughout the slot, and the trailing zeros allow it. The slot's virtual start has them always
   unfoldable pub block : ℕ → Bool
@@ -55,9 +54,9 @@ module _ (l : List Mapping) where
 -- ---- an entry
 
 -- the number of a page or block that leads there
-unfoldable pub leaf : ℕ → Lead → ℕ
-leaf k Nowhere = 0
-leaf k (To phys attr) = leaf_number k phys attr
+unfoldable pub leaf : ℕ → Option Lead → ℕ
+leaf k None = 0
+leaf k (Some d) = leaf_number k d.phys d.attr
 
 module _ (l : List Mapping) where
   -- the entry itself says where its addresses lead: that of a page always does, that of a slot where it is a block, that of a GiB never

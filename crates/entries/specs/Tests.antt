@@ -1,48 +1,45 @@
 -- How the tests of the code meet the definitions of an entry.
-use Rattle.std.specs.Prelude.{◌≡◌, ℕ, zero, suc, ◌+◌, ◌-◌, ◌*◌, ◌/◌, ◌%◌, ◌^◌, ◌<◌, ◌≤◌, Bool, true, false, ◌&&◌, List, ◌≢◌}
+use Rattle.std.specs.Prelude.{◌≡◌, ℕ, zero, suc, ◌+◌, ◌-◌, ◌*◌, ◌/◌, ◌%◌, ◌^◌, ◌<◌, ◌≤◌, Bool, true, false, ◌&&◌, List, ◌≢◌, None, Option, Some}
 use Rattle.std.proofs.Math.Path.{refl, ap}
 use Rattle.std.proofs.Common.{sym, ◌∙◌}
-use Rattle.std.proofs.Math.Option.{Option, none, some}
 use native.Mathlib.Omega.{arith}
 use Rattle.std.specs.Int.Count.{count_trailing_zeros}
 use borrow.Author.Tests.{le-leb, lt-leb}
+use Rattle.mapping.specs.Leads.{To}
+use Rattle.mapping.specs.declared.Lead.{Lead}
 use Rattle.rules.specs.Choice.{picked, passed}
 use Rattle.rules.specs.Sizes.{page_size}
 use Rattle.tools.specs.Search.{all}
 use Rattle.ranges.specs.declared.Mapping.{Mapping}
 use Rattle.mapping.specs.Mapping.{deciding, lead_of, touched, decided_by}
 use Rattle.mapping.proofs.Deciding.{deciding_low}
-use Rattle.mapping.specs.declared.Decider.{Decider}
-use Rattle.mapping.specs.declared.Decider.TheVariants.{By, Nobody}
-use Rattle.mapping.specs.declared.Lead.{Lead}
-use Rattle.mapping.specs.declared.Lead.TheVariants.{To, Nowhere}
 use Rattle.stretches.specs.Steady.{steady, steady_most, steady_some, steady_decides}
 use Rattle.descriptors.specs.Numbers.{span, leaf_number, table_number}
 use Rattle.entries.specs.Entries.{same, is_by, decides, throughout, allowed, physical, block_by, block, leaf, whole, deeper, entry}
 
 -- ---- the mapping that decides
-module _ (d : Decider) (o : Option Mapping) (said : d ≡ decided_by o) where
-  decided_none : d ≡ Nobody → o ≡ none
+module _ (d : Option Mapping) (o : Option Mapping) (said : d ≡ decided_by o) where
+  decided_none : d ≡ None → o ≡ None
   unfolding decided_by
   decided_none e = go o (sym said ∙ e)
     where
-      go : (o : Option Mapping) → decided_by o ≡ Nobody → o ≡ none
-      go none h = refl
-      go (some m) h = let z : By m ≡ Nobody = h in let y : ◌≡◌ {A = ℕ} 0 1 = cc in absurd (omega arith)
+      go : (o : Option Mapping) → decided_by o ≡ None → o ≡ None
+      go None h = refl
+      go (Some m) h = let z : Some m ≡ None = h in let y : ◌≡◌ {A = ℕ} 0 1 = cc in absurd (omega arith)
 
-  decided_some : (m : Mapping) → d ≡ By m → o ≡ some m
+  decided_some : (m : Mapping) → d ≡ Some m → o ≡ Some m
   unfolding decided_by
   decided_some m e = go o (sym said ∙ e)
     where
-      go : (o : Option Mapping) → decided_by o ≡ By m → o ≡ some m
-      go none h = let z : Nobody ≡ By m = h in let y : ◌≡◌ {A = ℕ} 0 1 = cc in absurd (omega arith)
-      go (some n) h = let z : By n ≡ By m = h in let y : n ≡ m = cc in ap some y
+      go : (o : Option Mapping) → decided_by o ≡ Some m → o ≡ Some m
+      go None h = let z : None ≡ Some m = h in let y : ◌≡◌ {A = ℕ} 0 1 = cc in absurd (omega arith)
+      go (Some n) h = let z : Some n ≡ Some m = h in let y : n ≡ m = cc in ap Some y
 
-  pub by_nobody : (m : Mapping) → d ≡ Nobody → false ≡ is_by m o
+  pub by_nobody : (m : Mapping) → d ≡ None → false ≡ is_by m o
   unfolding is_by
   by_nobody m e = rw (decided_none e)
 
-  pub by_one : (m n : Mapping) (r : Bool) → d ≡ By n → r ≡ same m n → r ≡ is_by m o
+  pub by_one : (m n : Mapping) (r : Bool) → d ≡ Some n → r ≡ same m n → r ≡ is_by m o
   unfolding is_by
   by_one m n r e f = rw (decided_some n e) f
 
@@ -103,16 +100,16 @@ module _ (l : List Mapping) (m : Mapping) (b i start : ℕ) (e : start ≡ (b + 
           let z = wrapped b i (suc j) start e (a.inside (suc j) (omega arith) h) in
           rw (z, a.same (suc j) (omega arith) h) (sym f ∙ g)
 
-module _ (l : List Mapping) (b : ℕ) (d : Decider) (said : d ≡ decided_by (deciding l b)) where
-  pub block_nobody : d ≡ Nobody → false ≡ block l b
+module _ (l : List Mapping) (b : ℕ) (d : Option Mapping) (said : d ≡ decided_by (deciding l b)) where
+  pub block_nobody : d ≡ None → false ≡ block l b
   unfolding block block_by
   block_nobody e = rw (decided_none d (deciding l b) said e)
 
-  pub block_one : (m : Mapping) (r : Bool) → d ≡ By m → r ≡ (allowed (physical m b) && throughout l m b) → r ≡ block l b
+  pub block_one : (m : Mapping) (r : Bool) → d ≡ Some m → r ≡ (allowed (physical m b) && throughout l m b) → r ≡ block l b
   unfolding block block_by
   block_one m r e f = rw (decided_some d (deciding l b) said m e) f
 
-  pub decider_low : (m : Mapping) → d ≡ By m → m.virt ≤ b
+  pub decider_low : (m : Mapping) → d ≡ Some m → m.virt ≤ b
   decider_low m e = deciding_low l b m (decided_some d (deciding l b) said m e)
 
 module _ (l : List Mapping) (m : Mapping) (b p : ℕ) (e : p ≡ physical m b) where
@@ -145,7 +142,7 @@ module _ (l : List Mapping) (k b : ℕ) where
     unfolding deeper
     deeper_whole i = rw (← h, i)
 
-    pub entry_leaf : (t n : ℕ) (d : Lead) → v ≡ true → d ≡ lead_of l b → n ≡ leaf k d → n ≡ entry l k b t
+    pub entry_leaf : (t n : ℕ) (d : Option Lead) → v ≡ true → d ≡ lead_of l b → n ≡ leaf k d → n ≡ entry l k b t
     unfolding entry
     entry_leaf t n d i j q = picked _ _ _ _ (sym h ∙ i) (rw (← j) q)
 
@@ -162,8 +159,8 @@ module _ (l : List Mapping) (k b : ℕ) where
       unfolding entry
       entry_none t g = passed _ _ _ _ (sym h ∙ n) (passed _ _ _ _ (rw (← e) (sym f) ∙ g) refl)
 
-module _ (k : ℕ) (d : Lead) where
-  pub leaf_none : d ≡ Nowhere → 0 ≡ leaf k d
+module _ (k : ℕ) (d : Option Lead) where
+  pub leaf_none : d ≡ None → 0 ≡ leaf k d
   unfolding leaf
   leaf_none e = rw e
 

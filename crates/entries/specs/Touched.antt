@@ -1,7 +1,6 @@
 -- Addresses that no mapping touches: nothing decides them, and no entry has anything to say of them.
-use Rattle.std.specs.Prelude.{◌≡◌, ℕ, ◌+◌, ◌<◌, ◌≤◌, true, false, not, List, ◌==◌, nat_le, refl}
+use Rattle.std.specs.Prelude.{◌≡◌, ℕ, ◌+◌, ◌<◌, ◌≤◌, true, false, not, List, ◌==◌, nat_le, refl, None, Option, Some}
 use Rattle.std.proofs.Common.{◌∙◌, arith}
-use Rattle.std.proofs.Math.Option.{Option, none, some}
 use borrow.Author.Tests.{eq-eqb, leb-true, leb-false, eqb-false}
 use Rattle.rules.specs.Choice.{pick_yes, pick_no, either, both_true, right_false, yes_or_no}
 use Rattle.ranges.specs.Ranges.{within_low, within_high, within_if, meet_not, meet_before}
@@ -29,16 +28,16 @@ module _ (x : ℕ) (m : Mapping) where
   holds_if h u = within_if x m.virt m.size h u
 
 -- ---- which mapping decides
-none_decides : (l : List Mapping) (x : ℕ) → any_of (holds x) l ≡ false → deciding l x ≡ none
+none_decides : (l : List Mapping) (x : ℕ) → any_of (holds x) l ≡ false → deciding l x ≡ None
 unfolding deciding
 none_decides l x h = of (smallest_of (holds x) l) (sought (holds x) l)
   where
-    of : (d : Option Mapping) → Sought (holds x) l d → d ≡ none
-    of none (missing a) = refl
-    of (some n) (smallest _ s) = absurd (yes_or_no _ (any_among (holds x) l n s.among s.passes) h)
+    of : (d : Option Mapping) → Sought (holds x) l d → d ≡ None
+    of None (missing a) = refl
+    of (Some n) (smallest _ s) = absurd (yes_or_no _ (any_among (holds x) l n s.among s.passes) h)
 
 -- no mapping touches the addresses
-pub untouched : (l : List Mapping) (b s x : ℕ) → touched l b s ≡ false → b ≤ x → x < b + s → deciding l x ≡ none
+pub untouched : (l : List Mapping) (b s x : ℕ) → touched l b s ≡ false → b ≤ x → x < b + s → deciding l x ≡ None
 unfolding touched
 untouched l b s x e h u =
     none_decides l x (any_less (touches b s) (holds x) l
@@ -48,7 +47,7 @@ untouched l b s x e h u =
 
 -- ---- an entry whose addresses are untouched
 module _ (l : List Mapping) (k b : ℕ) (n : touched l b (span k) ≡ false) where
-  nobody : deciding l b ≡ none
+  nobody : deciding l b ≡ None
   nobody = untouched l b (span k) b n (omega arith) (omega (arith, span_some k))
 
   pub untouched_deeper : deeper l k b ≡ false

@@ -1,5 +1,5 @@
 // What stands in an entry of a table, by the list of mappings and the addresses that the entry covers.
-#![tactic(auto)]
+#![tactic(auto, using(crate::specs::Tests::entries, crate::specs::Tests::blocks))]
 
 ghost use Rattle.std.specs.Prelude.{◌≡◌, ◌<◌, ◌≤◌, ◌&&◌};
 ghost use Rattle.mapping.specs.Lists.{held};
@@ -7,7 +7,7 @@ ghost use Rattle.mapping.specs.Mapping.{deciding};
 ghost use Rattle.entries.specs.Tests.{Alike};
 ghost use Rattle.entries.specs.Entries.{same, is_by, throughout, allowed, physical, block, leaf, whole, deeper, entry};
 
-use mapping::{Decider, Lead, Lists, Mapping};
+use mapping::{Lead, Lists, Mapping};
 use rules::PAGE_SIZE;
 
 // How many pages a slot has.
@@ -17,19 +17,11 @@ const SLOT_PAGES: u64 = 512;
 const BLOCK_ZEROS: u32 = 21;
 
 // Whether the two are one mapping, in all four numbers.
+#[tactic(auto, unfolding(crate::specs::Entries::same))]
 fn is_same(m: Mapping, n: Mapping) -> bool
     ensures { result ≡ same m n }
 {
-    if m.virt != n.virt {
-        return false;
-    }
-    if m.phys != n.phys {
-        return false;
-    }
-    if m.size != n.size {
-        return false;
-    }
-    m.attr == n.attr
+    m.virt == n.virt && m.phys == n.phys && m.size == n.size && m.attr == n.attr
 }
 
 // Whether it is this mapping that decides the address.
@@ -37,8 +29,8 @@ fn is_decided_by(lists: &Lists, world: u64, m: Mapping, address: u64) -> bool
     ensures { result ≡ is_by m (deciding (held lists.now world) address) }
 {
     match mapping::who_decides(lists, world, address) {
-        Decider::By(n) => is_same(m, n),
-        Decider::Nobody => false,
+        Some(n) => is_same(m, n),
+        None => false,
     }
 }
 
@@ -59,6 +51,7 @@ fn pages_alike(lists: &Lists, world: u64, start: u64, most: u64) -> u64
 fn is_throughout(lists: &Lists, world: u64, m: Mapping, slot: u64) -> bool
     ensures { result ≡ throughout (held lists.now world) m slot }
 {
+    // a while, since a pass goes on by as many pages as are decided alike
     let mut page = 0;
     let mut unseen = SLOT_PAGES;
     while 0 < unseen {
@@ -80,10 +73,7 @@ fn is_block_by(lists: &Lists, world: u64, m: Mapping, slot: u64) -> bool
     ensures { result ≡ (allowed (physical m slot) && throughout (held lists.now world) m slot) }
 {
     let start = std::num::wrapping_add_u64(m.phys, slot - m.virt);
-    if u64::trailing_zeros(start) < BLOCK_ZEROS {
-        return false;
-    }
-    is_throughout(lists, world, m, slot)
+    BLOCK_ZEROS <= start.trailing_zeros() && is_throughout(lists, world, m, slot)
 }
 
 // Whether the slot is a block: one mapping decides throughout it, and its physical start has the zeros.
@@ -91,8 +81,8 @@ fn is_block(lists: &Lists, world: u64, slot: u64) -> bool
     ensures { result ≡ block (held lists.now world) slot }
 {
     match mapping::who_decides(lists, world, slot) {
-        Decider::By(m) => is_block_by(lists, world, m, slot),
-        Decider::Nobody => false,
+        Some(m) => is_block_by(lists, world, m, slot),
+        None => false,
     }
 }
 
@@ -100,32 +90,28 @@ fn is_block(lists: &Lists, world: u64, slot: u64) -> bool
 fn is_whole(lists: &Lists, world: u64, level: u64, b: u64) -> bool
     ensures { result ≡ whole (held lists.now world) level b }
 {
-    if level == 0 {
-        return true;
+    match level {
+        0 => true,
+        1 => is_block(lists, world, b),
+        _ => false,
     }
-    if level == 1 {
-        return is_block(lists, world, b);
-    }
-    false
 }
 
 // Whether a table stands below the entry.
 pub fn is_deeper(lists: &Lists, world: u64, level: u64, b: u64) -> bool
     ensures { result ≡ deeper (held lists.now world) level b }
 {
-    if is_whole(lists, world, level, b) {
-        return false;
-    }
-    mapping::touches(lists, world, b, descriptors::span_of(level))
+    !is_whole(lists, world, level, b)
+        && mapping::touches(lists, world, b, descriptors::span_of(level))
 }
 
 // The number of a page or block that leads there.
-fn leaf_for(level: u64, lead: Lead) -> u64
+fn leaf_for(level: u64, lead: Option<Lead>) -> u64
     ensures { result ≡ leaf level lead }
 {
     match lead {
-        Lead::To { phys, attr } => descriptors::leaf_number(level, phys, attr),
-        Lead::Nowhere => 0,
+        Some(Lead { phys, attr }) => descriptors::leaf_number(level, phys, attr),
+        None => 0,
     }
 }
 

@@ -2,16 +2,10 @@
 #![tactic(auto)]
 
 ghost use Rattle.std.specs.Prelude.{◌≡◌, true};
-ghost use Rattle.frames.specs.Frames.{Machine, on_machine};
 ghost use Rattle.explain_reads.specs.Reading.{Ran};
 
-use cores::{Powers, Turns};
-use ledger::Ledger;
-use mapping::Lists;
+use frames::Machine;
 use origins::{Lines, Origins};
-use pages::{Named, Owners};
-use registers::Saved;
-use setup::Setup;
 use views::View;
 
 // Reads until the input ends, or a write fails: whether the input ended. The count only has the loop end: no input needs so
@@ -23,25 +17,14 @@ fn serve(
     out: &mut explain_reads::Output,
     origins: &mut Origins,
     count: &mut Lines,
-    setup: &mut Setup,
-    named: &mut Named,
-    book: &mut Ledger,
-    owners: &mut Owners,
-    saved: &mut Saved,
-    powers: &mut Powers,
-    turns: &mut Turns,
-    lists: &mut Lists,
+    machine: &mut Machine,
 ) -> bool
-    ensures { result ≡ true → on_machine setup named book owners saved powers turns lists (λ (m m' : Machine). Ran (m, (origins.old, count.old)) (m', (origins.new, count.new))) }
+    ensures { result ≡ true → Ran (machine.old, (origins.old, count.old)) (machine.new, (origins.new, count.new)) }
 {
     let mut kept: usize = 0;
-    let mut left = u64::MAX;
-    while left > 0 {
+    for _ in 0..u64::MAX {
         let n = channels::fill(rt, buf, kept);
-        let due = explain_reads::take_read(
-            view, buf, kept, n, out, origins, count, setup, named, book, owners, saved, powers,
-            turns, lists,
-        );
+        let due = explain_reads::take_read(view, buf, kept, n, out, origins, count, machine);
         if !channels::write(rt, out, due.put) {
             return false;
         }
@@ -49,7 +32,6 @@ fn serve(
             return true;
         }
         kept = due.kept;
-        left -= 1;
     }
     false
 }
@@ -61,21 +43,11 @@ pub fn explain(
     view: View,
     origins: &mut Origins,
     count: &mut Lines,
-    setup: &mut Setup,
-    named: &mut Named,
-    book: &mut Ledger,
-    owners: &mut Owners,
-    saved: &mut Saved,
-    powers: &mut Powers,
-    turns: &mut Turns,
-    lists: &mut Lists,
+    machine: &mut Machine,
 ) -> bool
-    ensures { result ≡ true → on_machine setup named book owners saved powers turns lists (λ (m m' : Machine). Ran (m, (origins.old, count.old)) (m', (origins.new, count.new))) }
+    ensures { result ≡ true → Ran (machine.old, (origins.old, count.old)) (machine.new, (origins.new, count.new)) }
 {
     let mut buf = [0u8; 1024];
     let mut out = [0u8; 3146752];
-    serve(
-        rt, view, &mut buf, &mut out, origins, count, setup, named, book, owners, saved, powers,
-        turns, lists,
-    )
+    serve(rt, view, &mut buf, &mut out, origins, count, machine)
 }

@@ -1,9 +1,11 @@
 -- What a read calls for: the words of its complete lines, which are to be written, and what waits.
-use Rattle.std.specs.Prelude.{◌≡◌, refl, ℕ, suc, ◌+◌, ◌-◌, ◌≤◌, eqb, leb, length, take}
+use Rattle.std.specs.Prelude.{◌≡◌, refl, ℕ, suc, ◌+◌, ◌-◌, ◌≤◌, eqb, leb, length, take, None, Option}
 use Rattle.std.proofs.Common.{sym, ◌∙◌, arith, length-append, length-take-le}
 use Rattle.std.proofs.Math.Path.{ap}
 use mathlib.Core.List.{List, [], ◌∷◌}
 use Rattle.std.proofs.lemmas.List.{length-map}
+use Rattle.lines.specs.Next.{Line}
+use Rattle.lines.specs.declared.Next.{Next}
 use Rattle.rules.specs.Choice.{chosen}
 use Rattle.tools.specs.Laid.{laid, put_take, length_laid}
 use Rattle.lines.specs.Lines.{lines_of, before, line_at, part, next_of}
@@ -13,8 +15,6 @@ use Rattle.lines.specs.Input.{reading, reading_of, reading_blind, next_found}
 use Rattle.lines.specs.Front.{fronted}
 use Rattle.lines.specs.Close.{closing, close_inside}
 use Rattle.parsing.specs.declared.Frame.{Frame}
-use Rattle.lines.specs.declared.Next.{Next}
-use Rattle.lines.specs.declared.Next.TheVariants.{Line, Unfinished}
 use Rattle.inputs.specs.Folds.{folded, left}
 use Rattle.inputs.specs.Feeding.{feeding}
 use Rattle.inputs.proofs.Feeding.{feeding_end, feeding_stop, feeding_line, feeds}
@@ -43,8 +43,8 @@ module _ (v : View) (s : List ℕ) (k : Stand) (at : ℕ) (o : ℕ × Stand) (in
   pub stops_end : length s ≤ at → (at, k) ≡ o
   stops_end h = feeding_end (after_told v) reading k at s h ∙ inv
 
-  module _ (next : Next) (xs ys : List ℕ) (e : (next, ys) ≡ next_of s at xs) where
-    pub stops_unfinished : next ≡ Unfinished → (at, k) ≡ o
+  module _ (next : Option Next) (xs ys : List ℕ) (e : (next, ys) ≡ next_of s at xs) where
+    pub stops_unfinished : next ≡ None → (at, k) ≡ o
     stops_unfinished is = feeding_stop (after_told v) reading k at s next xs ys e is ∙ inv
 
     pub goes_on : (f : Frame) (after : ℕ) → next ≡ Line f after → (k' : Stand) → k' ≡ after_told v k (f, ys) → feeding (after_told v) reading k' after s ≡ o

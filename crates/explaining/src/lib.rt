@@ -2,22 +2,16 @@
 #![tactic(auto)]
 
 ghost use Rattle.std.specs.Prelude.{◌≡◌};
-ghost use Rattle.frames.specs.Frames.{Machine, on_machine};
 ghost use Rattle.origins.specs.Lines.{lines_in};
 ghost use Rattle.running.specs.Running.{runs_after};
 ghost use Rattle.phrases.specs.Text.{line_text, told};
 ghost use Rattle.telling.specs.Telling.{sentence_of};
 ghost use Rattle.explaining.specs.Explained.{after_told};
 
-use cores::{Powers, Turns};
-use ledger::Ledger;
-use mapping::Lists;
+use frames::Machine;
 use origins::{Lines, Origins};
 use outcomes::Came;
-use pages::{Named, Owners};
 use parsing::Frame;
-use registers::Saved;
-use setup::Setup;
 use views::View;
 
 // The words of a line, where its number stands last in the count.
@@ -28,13 +22,12 @@ fn tell_line(
     out: &mut [u8],
     at: usize,
     lines: &Lines,
-    powers: &Powers,
-    turns: &Turns,
+    machine: &Machine,
 ) -> usize
-    ensures { (result, out.new) ≡ told out.old at (line_text (sentence_of (lines_in lines.now) frame x.now came (runs_after frame powers.now turns.now))) }
+    ensures { (result, out.new) ≡ told out.old at (line_text (sentence_of (lines_in lines.now) frame x.now came (runs_after frame machine.now.powers machine.now.turns))) }
 {
     let number = origins::lines_in(lines);
-    let runs = running::runs_after(frame, powers, turns);
+    let runs = running::runs_after(frame, &machine.powers, &machine.turns);
     let s = telling::tell(number, frame, x, came, runs);
     phrases::put_line(out, at, s)
 }
@@ -49,23 +42,14 @@ pub fn take_line(
     at: usize,
     origins: &mut Origins,
     lines: &mut Lines,
-    setup: &mut Setup,
-    named: &mut Named,
-    book: &mut Ledger,
-    owners: &mut Owners,
-    saved: &mut Saved,
-    powers: &mut Powers,
-    turns: &mut Turns,
-    lists: &mut Lists,
+    machine: &mut Machine,
 ) -> usize
-    ensures { on_machine setup named book owners saved powers turns lists (λ (m m' : Machine). ((m', (origins.new, lines.new)), (result, out.new)) ≡ after_told view ((m, (origins.old, lines.old)), (at, out.old)) (frame, x.now)) }
+    ensures { ((machine.new, (origins.new, lines.new)), (result, out.new)) ≡ after_told view ((machine.old, (origins.old, lines.old)), (at, out.old)) (frame, x.now) }
 {
-    let seen = views::take_line(
-        view, frame, x, origins, lines, setup, named, book, owners, saved, powers, turns, lists,
-    );
+    let seen = views::take_line(view, frame, x, origins, lines, machine);
     if seen.shown {
         let came = seen.came;
-        return tell_line(frame, x, came, out, at, lines, powers, turns);
+        return tell_line(frame, x, came, out, at, lines, machine);
     }
     at
 }

@@ -4,7 +4,7 @@
 ghost use Rattle.std.specs.Prelude.{◌≡◌, true};
 ghost use Rattle.explanations.specs.Ended.{Ended};
 
-use std::env::FillError;
+use frames::Machine;
 use std::rt::Env;
 use views::View;
 use wanted::Wanted;
@@ -16,34 +16,12 @@ const WORD: usize = 18;
 pub fn explain(rt: &(impl Input + Print), view: View) -> bool
     ensures { result ≡ true → Ended view }
 {
-    let mut setup = setup::fresh();
-    let mut named = pages::fresh_named();
-    let mut book = ledger::fresh();
-    let mut owners = pages::fresh_owners();
-    let mut saved = registers::fresh();
-    let mut powers = cores::fresh_powers();
-    let mut turns = cores::fresh_turns();
-    let mut lists = mapping::fresh();
+    let mut machine = Machine::fresh();
     let mut table = origins::fresh();
     let mut count = origins::fresh_lines();
-    if explain_console::explain(
-        rt,
-        view,
-        &mut table,
-        &mut count,
-        &mut setup,
-        &mut named,
-        &mut book,
-        &mut owners,
-        &mut saved,
-        &mut powers,
-        &mut turns,
-        &mut lists,
-    ) {
+    if explain_console::explain(rt, view, &mut table, &mut count, &mut machine) {
         let mut out = [0u8; 65536];
-        return standings::tell(
-            rt, view, &mut out, &count, &setup, &owners, &table, &powers, &turns, &lists,
-        );
+        return standings::tell(rt, view, &mut out, &table, &count, &machine);
     }
     false
 }
@@ -54,31 +32,25 @@ fn say_usage(rt: &impl Eprint) {
     );
 }
 
-// Whether the program was started with so many words behind its name, or more.
-fn has_word(rt: &impl Env, i: usize) -> bool {
-    let mut word = [0u8; 1];
-    !matches!(rt.arg(i, &mut word), Err(FillError::NotPresent))
-}
-
 // Explains standard input as the program's argument asks.
 pub fn run(rt: &(impl Input + Print + Eprint + Env)) {
-    if !has_word(rt, 1) {
+    if !arguments::has_word(rt, 1) {
         explain(rt, View::All);
         return;
     }
     let mut word = [0u8; WORD];
     let n = rt.arg(1, &mut word).unwrap_or(0);
-    if has_word(rt, 2) {
+    if arguments::has_word(rt, 2) {
         say_usage(rt);
         return;
     }
     match wanted::wanted_by(&word[..n]) {
-        Wanted::Map => {
+        Some(Wanted::Map) => {
             explain(rt, View::Map);
         }
-        Wanted::Page(address) => {
+        Some(Wanted::Page(address)) => {
             explain(rt, View::Page(address));
         }
-        Wanted::Unknown => say_usage(rt),
+        None => say_usage(rt),
     }
 }

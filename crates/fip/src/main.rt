@@ -1,7 +1,7 @@
 // Lists the images of a firmware package: fip FILE. Writes one of them to standard output: fip FILE IDENTIFIER.
 #![tactic(auto)]
 
-use std::env::FillError;
+use fip_entries::Fault;
 use std::io;
 use std::io::Error;
 use std::rt::Env;
@@ -17,12 +17,8 @@ const TOO_LONG: i32 = 36;
 
 const NO_TEXT: i32 = 84;
 
-// A line on standard error.
-fn say(rt: &impl Eprint, line: &str) -> io::Result<()> {
-    eprint!(rt; "{line}")
-}
-
-// What failed, a colon, and the system's words for the fault.
+// What failed, a colon, and the system's words for the fault. It stands in fip and in vet: in a library it would need a promise, and of
+// what is written to a handle there is none.
 fn fail(rt: &(impl Eprint + Alloc), what: &str, e: Error) -> io::Result<()> {
     let text = format!(in rt.alloc(); "{e}")?;
     match text.split_once(" (os error ") {
@@ -39,75 +35,60 @@ fn give(rt: &(impl Print + Eprint + Alloc), bytes: &[u8]) -> io::Result<()> {
 }
 
 // The number of a refusal, and the rule that was broken.
-fn refuse(rt: &impl Eprint, status: u64) -> io::Result<()> {
-    match status {
-        fip_entries::WRONG_LENGTH => say(rt, "81: under 16 or over 65536 bytes\n"),
-        fip_entries::WRONG_HEADER => {
-            say(rt, "82: another name than aa640001, or serial number 0\n")
-        }
-        fip_entries::WRONG_TABLE => { say(rt, "83: no whole end entry after at most 64 entries\n") }
-        fip_entries::SAME_IDENTIFIERS => say(rt, "84: an identifier stands twice\n"),
-        fip_entries::WRONG_PLACE => say(
-            rt,
-            "85: an image outside the package, or over the table or another image\n",
-        ),
-        _ => say(rt, "86: no image has this identifier, or it is all zero\n"),
-    }
+fn refuse(rt: &impl Eprint, fault: Fault) -> io::Result<()> {
+    let rule = match fault {
+        Fault::WrongLength => "under 16 or over 65536 bytes",
+        Fault::WrongHeader => "another name than aa640001, or serial number 0",
+        Fault::WrongTable => "no whole end entry after at most 64 entries",
+        Fault::SameIdentifiers => "an identifier stands twice",
+        Fault::WrongPlace => "an image outside the package, or over the table or another image",
+        Fault::NoImage => "no image has this identifier, or it is all zero",
+        Fault::NoRoom => "over 65536 bytes, or over the space that is lent",
+    };
+    eprintln!(rt; "{:x}: {rule}", u64::from(fault))
 }
 
 fn list(rt: &(impl Print + Eprint + Alloc), pack: &[u8]) -> io::Result<()> {
-    let status = fip_read::judge(pack);
-    if status != fip_entries::ACCEPTED {
-        return refuse(rt, status);
+    if let Err(fault) = fip_read::judge(pack) {
+        return refuse(rt, fault);
     }
-    let mut lines = [0u8; fip_text::LIST];
-    let n = fip_text::put_list(&mut lines, fip_read::table(pack));
-    give(rt, &lines[..n])
+    let mut room = [0u8; fip_text::LIST];
+    let n = fip_text::put_list(&mut room, fip_read::table(pack));
+    give(rt, &room[..n])
 }
 
 fn show(rt: &(impl Print + Eprint + Alloc), pack: &[u8], id: &[u8; 16]) -> io::Result<()> {
-    let status = fip_read::status(pack, id);
-    if status != fip_entries::ACCEPTED {
-        return refuse(rt, status);
+    if let Err(fault) = fip_read::locate(pack, id) {
+        return refuse(rt, fault);
     }
     give(rt, fip_read::find(pack, id))
 }
 
-// Whether the program was started with so many words behind its name, or more.
-fn has_word(rt: &impl Env, i: usize) -> bool {
-    let mut word = [0u8; 1];
-    !matches!(rt.arg(i, &mut word), Err(FillError::NotPresent))
-}
-
 fn main(rt: HostRuntime) -> io::Result<()> {
-    let mut word = [0u8; 36];
+    let mut word = [0u8; fip_identifiers::TEXT];
     let w = rt.arg(2, &mut word).unwrap_or(0);
     let asked = fip_identifiers::identifier(&word[..w]);
-    let is_list = has_word(&rt, 1) && !has_word(&rt, 2);
-    let is_image = has_word(&rt, 2) && !has_word(&rt, 3) && asked.given;
+    let is_list = arguments::has_word(&rt, 1) && !arguments::has_word(&rt, 2);
+    let is_image = arguments::has_word(&rt, 2) && !arguments::has_word(&rt, 3) && asked.is_some();
     if !is_list && !is_image {
-        return say(
-            &rt,
-            "usage: fip FILE, or fip FILE IDENTIFIER with its 32 lower-case digits grouped 8-4-4-4-12\n",
+        return eprintln!(&rt;
+            "usage: fip FILE, or fip FILE IDENTIFIER with its 32 lower-case digits grouped 8-4-4-4-12"
         );
     }
     let mut room = [0u8; PATH];
-    let p = match rt.arg(1, &mut room) {
-        Ok(p) => p,
-        Err(_) => return fail(&rt, "fip", Error::from_raw_os_error(TOO_LONG)),
+    let Ok(p) = rt.arg(1, &mut room) else {
+        return fail(&rt, "fip", Error::from_raw_os_error(TOO_LONG));
     };
-    let path = match str::from_utf8(&room[..p]) {
-        Ok(path) => path,
-        Err(_) => return fail(&rt, "fip", Error::from_raw_os_error(NO_TEXT)),
+    let Ok(path) = str::from_utf8(&room[..p]) else {
+        return fail(&rt, "fip", Error::from_raw_os_error(NO_TEXT));
     };
-    let mut pack = [0u8; SPACE];
-    let n = match input_whole::load(&rt, path, &mut pack) {
-        Ok(n) => n,
+    let mut room = [0u8; SPACE];
+    let pack = match input_whole::load(&rt, path, &mut room) {
+        Ok(n) => &room[..n],
         Err(e) => return fail(&rt, path, e),
     };
-    if is_list {
-        return list(&rt, &pack[..n]);
+    match asked {
+        Some(id) => show(&rt, pack, &id),
+        None => list(&rt, pack),
     }
-    let id = asked.bytes;
-    show(&rt, &pack[..n], &id)
 }

@@ -1,8 +1,10 @@
 -- An entry: an identifier of 16 bytes, then offset, size and flags of the image, 8 bytes each. Of a package's table, which follows the header, offsets still count from the package's first byte.
-use Rattle.std.specs.Prelude.{◌≡◌, Bool, true, not, ◌&&◌, List, ◌⊎◌, ℕ, ◌+◌, ◌*◌, ◌≤◌, ◌<◌, ltb, eqb, get_or, replicate}
+use Rattle.std.specs.Prelude.{◌≡◌, Bool, true, not, ◌&&◌, List, ◌⊎◌, ℕ, zero, suc, ◌+◌, ◌*◌, ◌≤◌, ◌<◌, ltb, eqb, get_or, replicate}
 use Rattle.std.proofs.Math.Bool.{false}
+use Rattle.std.proofs.Math.Path.{refl}
+use Rattle.std.specs.List.{list_all, range_with_len}
 use Rattle.std.proofs.Math.Logic.{inl, inr}
-use Rattle.std.proofs.Common.{⊎_elim, arith}
+use Rattle.std.proofs.Common.{⊎_elim, ◌∙◌, add-one, arith}
 use borrow.Author.Tests.{ltb-false, le-ltb, eqb-true, eqb-false, eq-eqb, ne_eqb}
 use Rattle.std.proofs.lemmas.List.{get_or-replicate}
 use Rattle.rules.specs.Choice.{either, left_false, right_false, not_true}
@@ -48,38 +50,16 @@ begins t i j = ltb (offset t i) (offset t j + size t j)
 unfoldable pub shares : List ℕ → ℕ → ℕ → Bool
 shares t i j = not (eqb (size t j) 0) && (begins t i j && begins t j i)
 
--- ---- one law for each answer of a test
-module _ (s : List ℕ) (a : ℕ) (t : List ℕ) (b i : ℕ) where
-  pub agrees_yes : get_or s (a + i) 0 ≡ get_or t (b + i) 0 → agrees s a t b i ≡ true
-  unfolding agrees
-  agrees_yes h = eq-eqb _ _ h
+-- ---- identifiers that are compared
+-- a chain over the numbers of a range asks what `all` asks
+all_list : (p : ℕ → Bool) (a n : ℕ) → list_all p (range_with_len a n) ≡ all p a n
+unfolding all
+all_list p a zero = refl
+all_list p a (suc n) = rw (all_list p (a + 1) n, add-one)
 
-  pub agrees_no : (get_or s (a + i) 0 ≡ get_or t (b + i) 0 → ⊥) → agrees s a t b i ≡ false
-  unfolding agrees
-  agrees_no h = ne_eqb _ _ h
-
--- what the code has in hand: offsets and sizes
-module _ (t : List ℕ) (r : Bool) where
-  pub outside_by : (room k a b : ℕ) → a ≡ offset t k → b ≡ size t k → r ≡ ltb room (a + b) → r ≡ outside t room k
-  unfolding outside
-  outside_by room k a b e f h = rw (← e, ← f) h
-
-  pub begins_by : (i j x a b : ℕ) → x ≡ offset t i → a ≡ offset t j → b ≡ size t j → r ≡ ltb x (a + b) → r ≡ begins t i j
-  unfolding begins
-  begins_by i j x a b d e f h = rw (← d, ← e, ← f) h
-
-module _ (t : List ℕ) (i j : ℕ) where
-  pub shares_empty : size t j ≡ 0 → false ≡ shares t i j
-  unfolding shares
-  shares_empty h = rw (eq-eqb (size t j) 0 h)
-
-  pub shares_before : (size t j ≡ 0 → ⊥) → begins t i j ≡ false → false ≡ shares t i j
-  unfolding shares
-  shares_before z h = rw (ne_eqb (size t j) 0 z, h)
-
-  pub shares_rest : (size t j ≡ 0 → ⊥) → begins t i j ≡ true → begins t j i ≡ shares t i j
-  unfolding shares
-  shares_rest z h = rw (ne_eqb (size t j) 0 z, h)
+pub agrees_all : (s : List ℕ) (a : ℕ) (t : List ℕ) (b : ℕ) (r : Bool) → r ≡ list_all (agrees s a t b) (range_with_len 0 16) → r ≡ same s a t b
+unfolding same
+agrees_all s a t b r e = e ∙ all_list (agrees s a t b) 0 16
 
 -- ---- what the tests mean
 module _ (s : List ℕ) (a : ℕ) (t : List ℕ) (b : ℕ) where

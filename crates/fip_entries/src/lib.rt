@@ -1,38 +1,54 @@
-// What reader and writer of a firmware package share: the statuses, the sizes of the format, and an entry of 40 bytes: the
+// What reader and writer of a firmware package share: the faults, the sizes of the format, and an entry of 40 bytes: the
 // identifier of an image, then its offset, its size and its flags. An entry that is not there reads as zero.
 #![tactic(auto)]
 
 mod numbers;
 
 ghost use Rattle.std.specs.Prelude.{◌≡◌, ◌+◌, ◌*◌, ◌<◌};
+ghost use Rattle.fip_entries.specs.Faults.{number_of};
 ghost use Rattle.fip_entries.specs.Numbers.{eight};
 ghost use Rattle.fip_entries.specs.Entries.{entry, offset, size, flags, same, zeros, outside, begins, shares};
 
 pub use numbers::{long_number, number};
 
-// The statuses of reader and writer: accepted, or the number of the first rule that is broken.
+// The status of what is accepted. That of what is refused is the number of its fault.
 pub const ACCEPTED: u64 = 0;
 
-// what is read is under 16 or over 65536 bytes
-pub const WRONG_LENGTH: u64 = 0x81;
+// What reader and writer refuse: the first rule that is broken.
+#[derive(Clone, Copy)]
+pub enum Fault {
+    // what is read is under 16 or over 65536 bytes
+    WrongLength,
+    // another name, or serial number 0
+    WrongHeader,
+    // no whole end entry; of what is to be written, over 64 images or a blank one
+    WrongTable,
+    // an identifier twice
+    SameIdentifiers,
+    // an image outside, or over the table or another image
+    WrongPlace,
+    // no image has the identifier, or it is all zero
+    NoImage,
+    // what is to be written is over 65536 bytes, or over the space that is lent
+    NoRoom,
+}
 
-// another name, or serial number 0
-pub const WRONG_HEADER: u64 = 0x82;
+// Its number.
+impl From<Fault> for u64 {
+    ghost from_gives = { λ fault number. number ≡ number_of fault };
 
-// no whole end entry; of what is to be written, over 64 images or a blank one
-pub const WRONG_TABLE: u64 = 0x83;
-
-// an identifier twice
-pub const SAME_IDENTIFIERS: u64 = 0x84;
-
-// an image outside, or over the table or another image
-pub const WRONG_PLACE: u64 = 0x85;
-
-// no image has the identifier, or it is all zero
-pub const NO_IMAGE: u64 = 0x86;
-
-// what is to be written is over 65536 bytes, or over the space that is lent
-pub const NO_ROOM: u64 = 0x87;
+    fn from(fault: Fault) -> u64 {
+        match fault {
+            Fault::WrongLength => 0x81,
+            Fault::WrongHeader => 0x82,
+            Fault::WrongTable => 0x83,
+            Fault::SameIdentifiers => 0x84,
+            Fault::WrongPlace => 0x85,
+            Fault::NoImage => 0x86,
+            Fault::NoRoom => 0x87,
+        }
+    }
+}
 
 // The format: the number that a package begins with, the bytes of its header and of an entry, and the most images and bytes that it
 // has.
@@ -53,7 +69,9 @@ pub fn entry(k: u32) -> usize
     ENTRY_SIZE * k as usize
 }
 
+// Three readers of numbers, and not one that is given the place in the entry: their names are those of the format, and each is a line.
 // Of entry k: where its image begins, counted from the package's first byte, or in a plan from the first of the image bytes.
+#[tactic(auto, unfolding(crate::specs::Entries::offset))]
 pub fn offset_of(t: &[u8], k: u32) -> u64
     ensures { result ≡ offset t.now k }
 {
@@ -61,6 +79,7 @@ pub fn offset_of(t: &[u8], k: u32) -> u64
 }
 
 // Of entry k: how many bytes its image has.
+#[tactic(auto, unfolding(crate::specs::Entries::size))]
 pub fn size_of(t: &[u8], k: u32) -> u64
     ensures { result ≡ size t.now k }
 {
@@ -68,6 +87,7 @@ pub fn size_of(t: &[u8], k: u32) -> u64
 }
 
 // Of entry k: the flags of its image.
+#[tactic(auto, unfolding(crate::specs::Entries::flags))]
 pub fn flags_of(t: &[u8], k: u32) -> u64
     ensures { result ≡ flags t.now k }
 {
@@ -80,16 +100,7 @@ pub fn is_same(t: &[u8], k: u32, s: &[u8], i: u32) -> bool
 {
     let a = ENTRY_SIZE * k as usize;
     let b = ENTRY_SIZE * i as usize;
-    let mut at: usize = 0;
-    let mut unseen: usize = 16;
-    while 0 < unseen {
-        if numbers::byte(t, a + at) != numbers::byte(s, b + at) {
-            return false;
-        }
-        at += 1;
-        unseen -= 1;
-    }
-    true
+    (0..16).all(|at| numbers::byte(t, a + at) == numbers::byte(s, b + at))
 }
 
 // Whether the identifier is all zero, as no image's is.
@@ -101,6 +112,7 @@ pub fn is_zero(id: &[u8]) -> bool
 }
 
 // Whether image k does not lie in the first `room` bytes.
+#[tactic(auto, unfolding(crate::specs::Entries::outside))]
 pub fn is_outside(t: &[u8], room: usize, k: u32) -> bool
     ensures { result ≡ outside t.now room k }
 {
@@ -108,6 +120,7 @@ pub fn is_outside(t: &[u8], room: usize, k: u32) -> bool
 }
 
 // Whether image i begins before image j ends.
+#[tactic(auto, unfolding(crate::specs::Entries::begins))]
 fn is_begun(t: &[u8], i: u32, j: u32) -> bool
     ensures { result ≡ begins t.now i j }
 {
@@ -115,14 +128,9 @@ fn is_begun(t: &[u8], i: u32, j: u32) -> bool
 }
 
 // Whether image j has bytes, and shares one with image i if that has some too.
+#[tactic(auto, unfolding(crate::specs::Entries::shares))]
 pub fn is_shared(t: &[u8], i: u32, j: u32) -> bool
     ensures { result ≡ shares t.now i j }
 {
-    if size_of(t, j) == 0 {
-        return false;
-    }
-    if is_begun(t, i, j) {
-        return is_begun(t, j, i);
-    }
-    false
+    size_of(t, j) != 0 && (is_begun(t, i, j) && is_begun(t, j, i))
 }

@@ -1,13 +1,14 @@
 -- Identifiers as text: sixteen bytes in lower-case digits, grouped 8-4-4-4-12.
-use Rattle.std.specs.Prelude.{◌≡◌, refl, Bool, true, false, ◌&&◌, List, [], ◌∷◌, ◌++◌, ℕ, zero, suc, ◌+◌, ◌-◌, ◌*◌, ◌/◌, ◌%◌, ◌≤◌, ◌<◌, ltb, eqb, length, get_or, replicate}
+use Rattle.std.specs.Prelude.{◌≡◌, refl, Option, None, Bool, true, false, ◌&&◌, List, [], ◌∷◌, ◌++◌, ℕ, zero, suc, ◌+◌, ◌-◌, ◌*◌, ◌/◌, ◌%◌, ◌≤◌, ◌<◌, ltb, eqb, length, get_or, replicate}
 use Rattle.std.proofs.Common.{sym, ap, ◌∙◌, add-one, eq-or-lt_of_le, ⊎_elim, ext_get_or, eq-eqb, ne_eqb, eqb-true, ltb-true, ltb-false}
 use native.Mathlib.Omega.{arith}
-use Rattle.std.proofs.Math.ListN.{get_or-eq_default}
+use Rattle.std.specs.Bool.{then_some}
 use Rattle.rules.specs.Choice.{pick, either, yes_or_no, both_true, left_true, right_true}
 use Rattle.tools.specs.Search.{all, all_at, all_if}
-use Rattle.tools.specs.Laid.{laid, then, laid_append, length_laid}
+use Rattle.tools.specs.Laid.{laid, put, laid_append, length_laid}
 use Rattle.hex_digits.specs.Rows.{Filled}
-use Rattle.hex_digits.specs.Hex.{digit_of, sign_of, sign_low, sign_high, digit_below, digit_low, digit_between, digit_high, digit_above}
+use Rattle.hex_digits.specs.Hex.{digit_of, sign_of, in_hex, length_hex, sign_low, sign_high, digit_low, digit_high}
+use Rattle.hex_write.specs.Put.{was_put}
 
 -- ---- the text of an identifier
 -- the two digits of a byte
@@ -57,13 +58,17 @@ bytes_of l = list_of (byte_at l) 0 16
 unfoldable pub is_identifier : List ℕ → Bool
 is_identifier l = eqb (length l) 36 && all (agree l (id_text (bytes_of l) 0)) 0 36
 
-unfoldable pub identified : List ℕ → Bool × List ℕ
-identified l = (is_identifier l, bytes_of l)
+-- the identifier that a text is
+unfoldable pub identified : List ℕ → Option (List ℕ)
+identified l = then_some (is_identifier l) (bytes_of l)
 
 -- ---- digits, byte by byte
-pub pair_put :
-    (o o' p : List ℕ) (at b x y : ℕ) → x ≡ sign_of (b / 16) → y ≡ sign_of (b % 16) → o' ≡ laid o at (x ∷ []) → p ≡ laid o' (at + 1) (y ∷ []) → p ≡ laid o at (byte_text b)
-pair_put o o' p at b x y e f g h = rw (← e, ← f) (then o o' p (x ∷ []) (y ∷ []) at (at + 1) 1 refl refl g h)
+two_digits : (b : ℕ) → b < 256 → in_hex 2 b ≡ byte_text b
+unfolding in_hex
+two_digits b h = let e : b / 16 % 16 ≡ b / 16 = omega arith in rw e
+
+pub pair_put : (o p : List ℕ) (at b x r : ℕ) → x ≡ b → b < 256 → at + 2 ≤ length o → (r, p) ≡ put o at (in_hex 2 x) → p ≡ laid o at (byte_text b)
+pair_put o p at b x r f h g e = (was_put o p at r 2 (in_hex 2 x) (length_hex 2 x) g e).is ∙ ap (laid o at) (ap (in_hex 2) f ∙ two_digits b h)
 
 run_next : (t : List ℕ) (a n : ℕ) → run t a (suc n) ≡ byte_text (get_or t a 0) ++ run t (a + 1) n
 unfolding run
@@ -113,10 +118,6 @@ unfolding id_text run
 length_id t a = refl
 
 -- ---- reading
--- past the end every byte counts as 0
-pub byte_past : (s : List ℕ) (at : ℕ) → length s ≤ at → 0 ≡ get_or s at 0
-byte_past s at h = sym (get_or-eq_default s 0 h)
-
 module _ (s t : List ℕ) (i a b : ℕ) (e : a ≡ get_or s i 0) (f : b ≡ get_or t i 0) where
   pub agree_yes : a ≡ b → agree s t i ≡ true
   agree_yes h = eq-eqb (get_or s i 0) (get_or t i 0) (cc)
@@ -124,25 +125,16 @@ module _ (s t : List ℕ) (i a b : ℕ) (e : a ≡ get_or s i 0) (f : b ≡ get_
   pub agree_no : (a ≡ b → ⊥) → agree s t i ≡ false
   agree_no h = ne_eqb (get_or s i 0) (get_or t i 0) (λ g. h (e ∙ g ∙ sym f))
 
+-- the places below n at which both agree
+pub all_agree : (s t : List ℕ) (n i : ℕ) → n ≤ i → ((k : ℕ) → k < i → agree s t k ≡ true) → true ≡ all (agree s t) 0 n
+all_agree s t n i h f = sym (all_if (agree s t) 0 n (λ k _ g. f k (omega arith)))
+
+pub one_differs : (s t : List ℕ) (n i : ℕ) → i < n → agree s t i ≡ false → false ≡ all (agree s t) 0 n
+one_differs s t n i h e =
+    either (all (agree s t) 0 n) (λ y. absurd (yes_or_no (agree s t i) (all_at (agree s t) 0 n i y (omega arith) (omega arith)) e)) (λ x. sym x)
+
 pub byte_at_lem : (l : List ℕ) (i p x : ℕ) → x ≡ byte_of l p → p ≡ place_of i → x ≡ byte_at l i
 byte_at_lem l i p x e f = e ∙ ap (byte_of l) f
-
--- a digit's value, by the range that the byte lies in
-module _ (b : ℕ) where
-  pub value_below : b < 48 → (16 ≡ digit_of b) × (16 ≤ 16)
-  value_below h = (sym (digit_below b h), omega arith)
-
-  pub value_low : 48 ≤ b → b < 58 → (b - 48 ≡ digit_of b) × (b - 48 ≤ 16)
-  value_low g h = (sym (digit_low b g h), omega arith)
-
-  pub value_between : 58 ≤ b → b < 97 → (16 ≡ digit_of b) × (16 ≤ 16)
-  value_between g h = (sym (digit_between b g h), omega arith)
-
-  pub value_high : 97 ≤ b → b < 103 → (b - 87 ≡ digit_of b) × (b - 87 ≤ 16)
-  value_high g h = (sym (digit_high b g h), omega arith)
-
-  pub value_above : 103 ≤ b → (16 ≡ digit_of b) × (16 ≤ 16)
-  value_above h = (sym (digit_above b h), omega arith)
 
 -- ---- the bytes of an identifier's own text are the identifier
 digit_sign : (d : ℕ) → d < 16 → digit_of (sign_of d) ≡ d
@@ -205,14 +197,15 @@ filled_bytes text l i h r =
     ext_get_or 0 l (list_of (byte_at text) 0 16) (r.size ∙ sym (length_list (byte_at text) 0 16))
     (λ j g. let k : j < 16 = omega (arith, r.size) in r.done j (omega arith) ∙ sym (at_first (byte_at text) 16 j k))
 
-pub not_sized : (text id : List ℕ) → (length text ≡ 36 → ⊥) → id ≡ bytes_of text → (false, id) ≡ identified text
+pub not_sized : (text : List ℕ) → (length text ≡ 36 → ⊥) → None ≡ identified text
 unfolding identified is_identifier
-not_sized text id h e = rw (ne_eqb (length text) 36 h, e)
+not_sized text h = rw (ne_eqb (length text) 36 h)
 
 pub compared :
-    (text id own : List ℕ) (given : Bool) → length text ≡ 36 → id ≡ bytes_of text → own ≡ id_text id 0 → given ≡ all (agree text own) 0 36 → (given, id) ≡ identified text
+    (text id own : List ℕ) (same : Bool) (r : Option (List ℕ)) → length text ≡ 36 → id ≡ bytes_of text → own ≡ id_text id 0 → same ≡ all (agree text own) 0 36 →
+    r ≡ then_some same id → r ≡ identified text
 unfolding identified is_identifier
-compared text id own given h e f g = rw (eq-eqb (length text) 36 h, ← e, ← f, g)
+compared text id own same r h e f g k = rw (eq-eqb (length text) 36 h, ← e, ← f, ← g) k
 
 -- ---- the theorem
 -- A text is of one identifier, or of none.

@@ -1,7 +1,8 @@
 -- How bytes are laid, one part behind the other.
-use Rattle.std.specs.Prelude.{◌≡◌, refl, List, [], ◌∷◌, ◌++◌, ℕ, ◌+◌, ◌-◌, ◌/◌, ◌%◌, ◌≤◌, ◌<◌, length, get_or, set}
+use Rattle.std.specs.Prelude.{◌≡◌, refl, List, [], ◌∷◌, ◌++◌, ℕ, ◌+◌, ◌-◌, ◌/◌, ◌%◌, ◌≤◌, ◌<◌, length, get_or, set, min, ltb}
 use Rattle.std.proofs.Math.Path.{sym}
-use Rattle.std.proofs.Common.{ap, ◌∙◌, arith}
+use Rattle.std.proofs.Common.{ap, ◌∙◌, arith, ltb-true, ltb-false}
+use Rattle.rules.specs.Choice.{either}
 use Rattle.tools.specs.Laid.{laid, laid_one, laid_append, laid_past, length_laid, then}
 use Rattle.fip_lay.specs.Bytes.{spell, copied, entry_of, length_spell, length_copied, spell_next, copied_next, spell_none, copied_none}
 
@@ -26,27 +27,53 @@ module _ (o w p : List ℕ) (at : ℕ) (left : List ℕ) (i : Laying o w p at le
   pub laying_past : length p ≤ at → p ≡ w
   laying_past h = sym (i.makes ∙ laid_past left p at h)
 
--- ---- the loops
-module _ (o w p : List ℕ) (at n : ℕ) where
-  module _ (v : ℕ) (i : Laying o w p at (spell n v)) where
-    pub number_goes : 0 < n → Laying o w (set p at (v % 256)) (at + 1) (spell (n - 1) (v / 256))
-    number_goes h = laying_goes _ _ _ _ _ i _ (v % 256 ∷ []) _ _ (spell_next n v h) refl (laid_one p at (v % 256))
+-- ---- the loops, which have laid i of n bytes from `at` on
+module _ (o w p : List ℕ) (at i n : ℕ) where
+  module _ (h : i < n) where
+    next_place : at + (i + 1) ≡ at + i + 1
+    next_place = omega arith
 
-    pub number_ends : n ≤ 0 → p ≡ w
-    number_ends h = laying_ends _ _ _ _ _ i (spell_none n v h)
+    one_fewer : n - (i + 1) ≡ n - i - 1
+    one_fewer = omega arith
 
-  module _ (s : List ℕ) (from j : ℕ) (i : Laying o w p at (copied s (from + j) n)) where
-    pub bytes_go : (b : ℕ) → b ≡ get_or s (from + j) 0 → 0 < n → Laying o w (set p at b) (at + 1) (copied s (from + (j + 1)) (n - 1))
-    bytes_go b e h =
-        let z : from + (j + 1) ≡ from + j + 1 = omega arith in
-        laying_goes _ _ _ _ _ i _ (b ∷ []) _ _ (copied_next s (from + j) n h ∙ rw (e, z)) refl (laid_one p at b)
+    pub number_goes : (v : ℕ) → Laying o w p (at + i) (spell (n - i) v) → Laying o w (set p (at + i) (v % 256)) (at + (i + 1)) (spell (n - (i + 1)) (v / 256))
+    number_goes v l =
+        rw (next_place, one_fewer)
+        (laying_goes _ _ _ _ _ l _ (v % 256 ∷ []) _ _ (spell_next (n - i) v (omega arith)) refl (laid_one p (at + i) (v % 256)))
 
-    pub bytes_end : n ≤ 0 → p ≡ w
-    bytes_end h = laying_ends _ _ _ _ _ i (copied_none s (from + j) n h)
+    pub bytes_go :
+        (s : List ℕ) (from b : ℕ) → Laying o w p (at + i) (copied s (from + i) (n - i)) → b ≡ get_or s (from + i) 0 →
+        Laying o w (set p (at + i) b) (at + (i + 1)) (copied s (from + (i + 1)) (n - (i + 1)))
+    bytes_go s from b l e =
+        let z : from + (i + 1) ≡ from + i + 1 = omega arith in
+        rw (next_place, one_fewer)
+        (laying_goes _ _ _ _ _ l _ (b ∷ []) _ _ (copied_next s (from + i) (n - i) (omega arith) ∙ rw (e, z)) refl (laid_one p (at + i) b))
 
--- no byte has been copied yet
-pub bytes_start : (o s : List ℕ) (at from n : ℕ) → Laying o (laid o at (copied s from n)) o at (copied s (from + 0) n)
-bytes_start o s at from n = let z : from + 0 ≡ from = omega arith in rw z (laying_starts o at (copied s from n))
+  -- as many as there are, or as lie before the end
+  module _ (e : i ≡ min n (length o - at)) where
+    ends_at : (left : List ℕ) → Laying o w p (at + i) left → (n - i ≤ 0 → left ≡ []) → p ≡ w
+    ends_at left l f =
+        either (ltb i n)
+        (λ y. let h = ltb-true i n y in laying_past _ _ _ _ _ l (omega (arith, l.long)))
+        (λ y. let h = ltb-false i n y in laying_ends _ _ _ _ _ l (f (omega arith)))
+
+    pub number_ends : (v : ℕ) → Laying o w p (at + i) (spell (n - i) v) → p ≡ w
+    number_ends v l = ends_at (spell (n - i) v) l (spell_none (n - i) v)
+
+    pub bytes_end : (s : List ℕ) (from : ℕ) → Laying o w p (at + i) (copied s (from + i) (n - i)) → p ≡ w
+    bytes_end s from l = ends_at (copied s (from + i) (n - i)) l (copied_none s (from + i) (n - i))
+
+-- no byte has been laid yet
+module _ (o : List ℕ) (at n : ℕ) where
+  pub number_starts : (v : ℕ) → Laying o (laid o at (spell n v)) o (at + 0) (spell (n - 0) v)
+  number_starts v = let x : at + 0 ≡ at = omega arith in let y : n - 0 ≡ n = omega arith in rw (x, y) (laying_starts o at (spell n v))
+
+  pub bytes_start : (s : List ℕ) (from : ℕ) → Laying o (laid o at (copied s from n)) o (at + 0) (copied s (from + 0) (n - 0))
+  bytes_start s from =
+      let x : at + 0 ≡ at = omega arith in
+      let y : n - 0 ≡ n = omega arith in
+      let z : from + 0 ≡ from = omega arith in
+      rw (x, y, z) (laying_starts o at (copied s from n))
 
 -- ---- parts one behind the other
 pub three :

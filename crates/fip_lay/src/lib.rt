@@ -10,10 +10,7 @@ ghost use Rattle.fip_lay.specs.Bytes.{spell, copied, entry_of};
 fn byte(s: &[u8], from: usize, i: usize) -> u8
     ensures { result ≡ get_or s.now (from + i) 0 }
 {
-    if s.len() <= from {
-        return 0;
-    }
-    if s.len() - from <= i {
+    if s.len() <= from || s.len() - from <= i {
         return 0;
     }
     s[from + i]
@@ -23,17 +20,8 @@ fn byte(s: &[u8], from: usize, i: usize) -> u8
 pub fn put_bytes(out: &mut [u8], at: usize, s: &[u8], from: usize, n: usize)
     ensures { out.new ≡ laid out.old at (copied s.now from n) }
 {
-    let mut to = at;
-    let mut i: usize = 0;
-    let mut unput = n;
-    while 0 < unput {
-        if out.len() <= to {
-            return;
-        }
-        out[to] = byte(s, from, i);
-        to += 1;
-        i += 1;
-        unput -= 1;
+    for i in 0..n.min(out.len().saturating_sub(at)) {
+        out[at + i] = byte(s, from, i);
     }
 }
 
@@ -41,17 +29,10 @@ pub fn put_bytes(out: &mut [u8], at: usize, s: &[u8], from: usize, n: usize)
 pub fn put_number(out: &mut [u8], at: usize, v: u64, n: usize)
     ensures { out.new ≡ laid out.old at (spell n v) }
 {
-    let mut to = at;
     let mut rest = v;
-    let mut unput = n;
-    while 0 < unput {
-        if out.len() <= to {
-            return;
-        }
-        out[to] = (rest % 256) as u8;
-        to += 1;
-        rest = rest / 256;
-        unput -= 1;
+    for i in 0..n.min(out.len().saturating_sub(at)) {
+        out[at + i] = (rest % 256) as u8;
+        rest /= 256;
     }
 }
 
@@ -65,7 +46,8 @@ fn put_numbers(out: &mut [u8], at: usize, a: u64, b: u64, c: u64)
     put_number(out, at + 16, c, 8);
 }
 
-// Entry k of a table that begins at `start`: the identifier at `from` in s, and offset, size and flags.
+// Entry k of a table that begins at `start`: the identifier at `from` in s, and offset, size and flags. They are no struct, since its
+// two callers have them as numbers of their own, and would only build it here.
 pub fn put_entry(
     out: &mut [u8],
     start: u32,

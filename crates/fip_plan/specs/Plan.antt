@@ -1,5 +1,5 @@
 -- A plan: an entry for each image of a package, as the package's table has it, but with its offset into the image bytes that are lent. No end entry belongs to it.
-use Rattle.std.specs.Prelude.{◌≡◌, Bool, true, false, ◌||◌, ℕ, zero, suc, ◌+◌, ◌-◌, ◌/◌, ◌≤◌, ◌<◌, ltb, eqb, length}
+use Rattle.std.specs.Prelude.{◌≡◌, Bool, true, false, ◌||◌, ℕ, zero, suc, ◌+◌, ◌-◌, ◌/◌, ◌≤◌, ◌<◌, ltb, eqb, length, ⊤, Result, Ok, Err}
 use Rattle.std.proofs.Math.Path.{refl}
 use Rattle.std.proofs.Common.{ap, ◌∙◌, add-one, lt-ltb, le-ltb}
 use mathlib.Core.List.{List, [], ◌∷◌}
@@ -9,6 +9,8 @@ use Rattle.rules.specs.Choice.{pick, picked, passed}
 use Rattle.tools.specs.Search.{any}
 use Rattle.rules.specs.Tests.{Test, refuses, sieve}
 use Rattle.tools.specs.Laid.{laid}
+use Rattle.fip_entries.specs.declared.Fault.{Fault}
+use Rattle.fip_entries.specs.declared.Fault.TheVariants.{WrongHeader, WrongTable, SameIdentifiers, WrongPlace, NoRoom}
 use Rattle.fip_entries.specs.Entries.{entry, size}
 use Rattle.fip_table.specs.Table.{blank, doubled, strays, table_end}
 use Rattle.fip_lay.specs.Bytes.{copied, entry_of, copied_is}
@@ -35,18 +37,18 @@ unfoldable pub capped : ℕ → ℕ
 capped t = pick (ltb 65536 t) 65537 t
 
 -- ---- what is tested of n images, in this order, where `room` image bytes and a space of `space` bytes are lent
-unfoldable pub hindrances : ℕ → List ℕ → ℕ → ℕ → ℕ → List (Test ℕ)
+unfoldable pub hindrances : ℕ → List ℕ → ℕ → ℕ → ℕ → List (Test Fault)
 hindrances serial d n room space =
-    refuses (eqb serial 0) 0x82
-    ∷ refuses (ltb 64 n || any (blank d) 0 n) 0x83
-    ∷ refuses (doubled d n) 0x84
-    ∷ refuses (strays d room n) 0x85
-    ∷ refuses (ltb 65536 (total d n) || ltb space (total d n)) 0x87
+    refuses (eqb serial 0) WrongHeader
+    ∷ refuses (ltb 64 n || any (blank d) 0 n) WrongTable
+    ∷ refuses (doubled d n) SameIdentifiers
+    ∷ refuses (strays d room n) WrongPlace
+    ∷ refuses (ltb 65536 (total d n) || ltb space (total d n)) NoRoom
     ∷ []
 
--- 0, or the first hindrance
-unfoldable pub weighed : ℕ → List ℕ → ℕ → ℕ → ℕ
-weighed serial d room space = sieve (λ (v : ℕ). v) (hindrances serial d (planned d) room space) 0
+-- nothing stands against it, or the first hindrance
+unfoldable pub weighed : ℕ → List ℕ → ℕ → ℕ → Result ⊤ Fault
+weighed serial d room space = sieve Err (hindrances serial d (planned d) room space) (Ok tt)
 
 -- ---- what planning an image leaves
 module _ (d : List ℕ) (k : ℕ) (id : List ℕ) (offset size flags : ℕ) where
@@ -73,23 +75,26 @@ unfolding sizes
 sizes_none d k zero h = refl
 sizes_none d k (suc n) h = absurd (omega arith)
 
--- of n images k have been passed and u are left, and the first of those begins at `at`
-pub record Reached (d : List ℕ) (n k u at : ℕ) : Type 0 where
-  pub passed : k + u ≡ n
-  pub reaches : at + sizes d k u ≡ total d n
+-- of n images k have been passed, and the first that is left begins at `at`
+pub record Reached (d : List ℕ) (n k at : ℕ) : Type 0 where
+  pub passed : k ≤ n
+  pub reaches : at + sizes d k (n - k) ≡ total d n
 
-pub reached_start : (d : List ℕ) (n at : ℕ) → at ≡ table_end n → Reached d n 0 n at
+pub reached_start : (d : List ℕ) (n at : ℕ) → at ≡ table_end n → Reached d n 0 at
 unfolding total
-reached_start d n at e = record { passed = omega arith; reaches = rw e }
+reached_start d n at e = let z : n - 0 ≡ n = omega arith in record { passed = omega arith; reaches = rw (e, z) }
 
-module _ (d : List ℕ) (n k u at : ℕ) (i : Reached d n k u at) where
-  module _ (z : ℕ) (e : z ≡ size d k) (h : 0 < u) where
-    pub reached_next : Reached d n (k + 1) (u - 1) (at + z)
-    reached_next = record { passed = omega arith; reaches = omega (arith, sizes_next d k u h) }
+module _ (d : List ℕ) (n k at : ℕ) (i : Reached d n k at) where
+  module _ (z : ℕ) (e : z ≡ size d k) (h : k < n) where
+    more : at + z + sizes d (k + 1) (n - k - 1) ≡ total d n
+    more = omega (arith, i.reaches, sizes_next d k (n - k) (omega arith))
+
+    pub reached_next : Reached d n (k + 1) (at + z)
+    reached_next = let y : n - (k + 1) ≡ n - k - 1 = omega arith in record { passed = omega arith; reaches = rw y more }
 
     -- image k lies in the package
     pub reached_in : at + z ≤ total d n
-    reached_in = omega (arith, sizes_next d k u h)
+    reached_in = omega (arith, more)
 
-  pub reached_end : u ≤ 0 → at ≡ total d n
-  reached_end h = omega (arith, sizes_none d k u h)
+  pub reached_end : n ≤ k → at ≡ total d n
+  reached_end h = omega (arith, i.reaches, sizes_none d k (n - k) (omega arith))

@@ -1,10 +1,12 @@
 -- What is known once a plan has been weighed.
-use Rattle.std.specs.Prelude.{◌≡◌, Bool, true, false, ◌||◌, List, ℕ, ◌≤◌, ◌<◌, ltb, length}
+use Rattle.std.specs.Prelude.{◌≡◌, Bool, true, false, ◌||◌, List, ℕ, ◌≤◌, ◌<◌, ltb, length, ⊤, Result, Ok, Err}
 use Rattle.std.proofs.Math.Path.{refl}
 use Rattle.std.proofs.Common.{sym, ◌∙◌, arith}
 use borrow.Author.Tests.{eq-eqb, ne_eqb, lt-ltb, le-ltb, ltb-true, ltb-false}
 use Rattle.rules.specs.Choice.{picked, passed, chosen, first_or, second_or, neither, not_first, not_second}
-use Rattle.rules.specs.Tests.{sieve, Clear, Reasons, none_holds, stops, goes, ends, said}
+use Rattle.rules.specs.Tests.{sieve, Clear, stops, goes, ends, said}
+use Rattle.fip_entries.specs.declared.Fault.{Fault}
+use Rattle.fip_entries.specs.Faults.{accepted_clear}
 use Rattle.fip_table.specs.Table.{table_end, slots}
 use Rattle.fip_plan.specs.Plan.{planned, total, capped, hindrances, weighed}
 
@@ -68,18 +70,15 @@ table_over d n at e h = capped_over (total d n) (omega arith)
 pub ruleset weighings = (stops, goes, ends, said, eq-eqb, ne_eqb, lt-ltb, le-ltb, first_or, second_or, neither, too_long, no_room, has_room)
 
 -- what the tests say of the images counted is what they say of the plan
-pub weighed_by : (serial : ℕ) (d : List ℕ) (n room space r : ℕ) → n ≡ planned d → r ≡ sieve (λ (v : ℕ). v) (hindrances serial d n room space) 0 → r ≡ weighed serial d room space
+pub weighed_by : (serial : ℕ) (d : List ℕ) (n room space : ℕ) (r : Result ⊤ Fault) → n ≡ planned d → r ≡ sieve Err (hindrances serial d n room space) (Ok tt) → r ≡ weighed serial d room space
 unfolding weighed
 weighed_by serial d n room space r e h = rw e at h
 
 -- ---- a plan that is not refused
-module _ (serial : ℕ) (d : List ℕ) (room space : ℕ) (e : weighed serial d room space ≡ 0) where
+module _ (serial : ℕ) (d : List ℕ) (room space : ℕ) (e : weighed serial d room space ≡ Ok tt) where
   pub unhindered : Clear (hindrances serial d (planned d) room space)
-  unfolding weighed hindrances Reasons
-  unhindered =
-      none_holds (hindrances serial d (planned d) room space)
-      ((λ z. omega arith), ((λ z. omega arith), ((λ z. omega arith), ((λ z. omega arith), ((λ z. omega arith), tt)))))
-      e
+  unfolding weighed
+  unhindered = (accepted_clear (hindrances serial d (planned d) room space) tt tt e).0
 
   pub few_planned : planned d ≤ 64
   unfolding hindrances Clear

@@ -6,6 +6,8 @@
 ghost use Rattle.std.specs.Prelude.{◌≡◌};
 ghost use Rattle.fip_plan.specs.Plan.{total, capped, planned_at, weighed};
 
+use fip_entries::Fault;
+
 // Sets image k of a plan: its identifier, where its bytes begin in those that are lent, how many they are, and its flags. Where the
 // plan has no such entry it answers false, and nothing is changed.
 pub fn plan_image(
@@ -25,7 +27,8 @@ pub fn plan_image(
     true
 }
 
-// How long the package of the first n images is, or one more than the most where it is longer than that.
+// How long the package of the first n images is, or one more than the most where it is longer than that: a number and no Option, as
+// its promise is the equation with `capped`.
 pub fn length_of(plan: &[u8], n: u32) -> usize
     ensures { result ≡ capped (total plan.now n) }
 {
@@ -33,46 +36,37 @@ pub fn length_of(plan: &[u8], n: u32) -> usize
     if fip_entries::MOST_BYTES < at {
         return fip_entries::MOST_BYTES + 1;
     }
-    let mut k: u32 = 0;
-    let mut unseen = n;
-    while 0 < unseen {
+    for k in 0..n {
         let size = fip_entries::size_of(plan, k) as usize;
         if fip_entries::MOST_BYTES - at < size {
             return fip_entries::MOST_BYTES + 1;
         }
         at += size;
-        k += 1;
-        unseen -= 1;
     }
     at
 }
 
-// The first rule that a write would break, or 0, where `room` image bytes and a space of `space` bytes are lent.
-pub fn weigh(serial: u32, plan: &[u8], room: usize, space: usize) -> u64
+// Whether a write would break no rule, or the first that it would break, where `room` image bytes and a space of `space` bytes are
+// lent.
+pub fn weigh(serial: u32, plan: &[u8], room: usize, space: usize) -> Result<(), Fault>
     ensures { result ≡ weighed serial plan.now room space }
 {
     if serial == 0 {
-        return fip_entries::WRONG_HEADER;
+        return Err(Fault::WrongHeader);
     }
     let n = fip_table::slots_of(plan.len());
-    if fip_entries::MOST_IMAGES < n as usize {
-        return fip_entries::WRONG_TABLE;
-    }
-    if fip_table::has_blank(plan, n) {
-        return fip_entries::WRONG_TABLE;
+    if fip_entries::MOST_IMAGES < n as usize || fip_table::has_blank(plan, n) {
+        return Err(Fault::WrongTable);
     }
     if fip_table::has_twins(plan, n) {
-        return fip_entries::SAME_IDENTIFIERS;
+        return Err(Fault::SameIdentifiers);
     }
     if fip_table::has_stray(plan, room, n) {
-        return fip_entries::WRONG_PLACE;
+        return Err(Fault::WrongPlace);
     }
     let length = length_of(plan, n);
-    if fip_entries::MOST_BYTES < length {
-        return fip_entries::NO_ROOM;
+    if fip_entries::MOST_BYTES < length || space < length {
+        return Err(Fault::NoRoom);
     }
-    if space < length {
-        return fip_entries::NO_ROOM;
-    }
-    fip_entries::ACCEPTED
+    Ok(())
 }

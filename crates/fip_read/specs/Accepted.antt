@@ -1,20 +1,23 @@
 -- What holds of every package that is accepted, and what a read of any package shows. The statements come first, the theorems last.
-use Rattle.std.specs.Prelude.{◌≡◌, refl, Bool, false, not, List, [], ◌⊎◌, ℕ, ◌+◌, ◌-◌, ◌*◌, ◌≤◌, ◌<◌, ltb, eqb, length, get_or}
-use Rattle.std.proofs.Math.Path.{sym}
+use Rattle.std.specs.Prelude.{◌≡◌, refl, Bool, false, not, ◌||◌, List, [], ◌∷◌, ◌⊎◌, ℕ, ◌+◌, ◌-◌, ◌*◌, ◌≤◌, ◌<◌, ltb, eqb, length, get_or, ⊤, Result, Ok, Err}
+use Rattle.std.specs.Result.{result_and}
+use Rattle.std.proofs.Math.Path.{sym, ap}
 use Rattle.std.proofs.Common.{◌∙◌, inl, inr, ⊎_elim, arith, lit≤, length-drop}
 use Rattle.std.proofs.Math.Bool.{true}
-use borrow.Author.Tests.{ltb-true, ltb-false, lt-ltb, le-ltb, eqb-true, eqb-false, eq-eqb, not-false}
+use borrow.Author.Tests.{ltb-true, ltb-false, lt-ltb, le-ltb, eqb-true, eqb-false, not-false}
 use Rattle.rules.specs.Choice.{chosen, either, yes_or_no, neither, not_first, not_second}
-use Rattle.rules.specs.Tests.{sieve, Clear, Reasons, none_holds, sieved, goes, ends}
+use Rattle.rules.specs.Tests.{refuses, sieve, Clear}
 use Rattle.tools.specs.Search.{first_is}
+use Rattle.fip_entries.specs.declared.Fault.{Fault}
+use Rattle.fip_entries.specs.Faults.{number_of, status_of, number_low, accepted_clear, clear_accepted, both_accept}
+use Rattle.fip_entries.specs.declared.Fault.TheVariants.{NoImage}
 use Rattle.fip_entries.specs.Numbers.{four}
 use Rattle.fip_entries.specs.Entries.{entry, offset, size, same, zeros, same_bytes, bytes_same, zeros_byte, Apart, shares_apart, apart_shares}
 use Rattle.fip_table.specs.Table.{blank, twins, doubled, strays, table_end, crowded, slots, count, unended, ended, holds, sought}
 use Rattle.fip_table.specs.Meaning.{blank_zero, zero_blank, single_one, one_single, all_inside, inside_all, all_clear, clear_all, slots_most, slots_room, slots_have, firstly_one, count_is, count_room}
-use Rattle.fip_read.specs.Reading.{wrong_length, wrong_header, behind, entries, faults, judged, doubts, placed, located, status_of, part_of}
-use Rattle.fip_read.specs.Reading.{length_least, length_most, right_header, locating, refused_part, at_is, at_status}
-use Rattle.fip_read.specs.declared.Found.{Found}
-use Rattle.fip_read.specs.declared.Found.TheVariants.{At, Refused}
+use Rattle.fip_read.specs.Reading.{wrong_length, wrong_header, behind, entries, faults, judged, doubts, placed, located, part_of}
+use Rattle.fip_read.specs.Reading.{length_least, length_most, right_header, refused_part, ok_is}
+use Rattle.fip_read.specs.declared.Part.{Part}
 
 -- ---- the statements
 -- byte b of the identifier of entry k
@@ -80,9 +83,9 @@ abbrev pub Status : ℕ → Type 0
 Status v = (v ≡ 0) ⊎ Reason v
 
 -- An answer that is a refusal has such a number, so that a status of 0 is that of an image that was found.
-unfoldable pub Told : Found → Type 0
-Told (At start size) = Unit {0}
-Told (Refused v) = Reason v
+unfoldable pub Told : Result Part Fault → Type 0
+Told (Ok p) = Unit {0}
+Told (Err f) = Reason (number_of f)
 
 -- ---- an accepted package has passed every test
 record Passed (s : List ℕ) (n : ℕ) : Type 0 where
@@ -93,12 +96,12 @@ record Passed (s : List ℕ) (n : ℕ) : Type 0 where
   inside : strays (behind s) (length s) n ≡ false
   clear : crowded (behind s) n ≡ false
 
-judged_passed : (s : List ℕ) → judged s ≡ 0 → Passed s (entries s)
-unfolding judged faults Reasons Clear
+judged_passed : (s : List ℕ) → judged s ≡ Ok tt → Passed s (entries s)
+unfolding judged faults Clear
 judged_passed s e =
     let t = behind s in
     let n = entries s in
-    let c = none_holds (faults s t n) ((λ z. omega arith), ((λ z. omega arith), ((λ z. omega arith), ((λ z. omega arith), ((λ z. omega arith), tt))))) e in
+    let c = (accepted_clear (faults s t n) tt tt e).0 in
     let place = c.1.1.1.1.0 in
     record {
       long = c.0;
@@ -109,14 +112,10 @@ judged_passed s e =
       clear = not_second (strays t (length s) n) _ place;
     }
 
-passed_judged : (s : List ℕ) → Passed s (entries s) → judged s ≡ 0
-unfolding judged faults
+passed_judged : (s : List ℕ) → Passed s (entries s) → judged s ≡ Ok tt
+unfolding judged faults Clear
 passed_judged s p =
-    sym (goes _ _ _ _ _ _ p.long
-    (goes _ _ _ _ _ _ p.headed
-    (goes _ _ _ _ _ _ p.ended
-    (goes _ _ _ _ _ _ p.single
-    (goes _ _ _ _ _ _ (neither _ _ p.inside p.clear) (ends _ _ _ refl))))))
+    sym (clear_accepted (faults s (behind s) (entries s)) tt (p.long, (p.headed, (p.ended, (p.single, (neither _ _ p.inside p.clear, tt))))))
 
 -- ---- what it passed makes it sound
 right_name : (s : List ℕ) → wrong_header s ≡ false → four s 0 ≡ 0xaa640001
@@ -198,35 +197,35 @@ sound_passed s g =
 
 -- ---- the theorems: a package
 -- Every package that is accepted is sound.
-pub accepted : (s : List ℕ) → judged s ≡ 0 → Sound s (entries s)
+pub accepted : (s : List ℕ) → judged s ≡ Ok tt → Sound s (entries s)
 accepted s e = passed_sound s (judged_passed s e)
 
 -- Every sound package is accepted, so these are exactly the conditions; and it has as many entries as it is said to have.
-pub sound_accepted : (s : List ℕ) (n : ℕ) → Sound s n → (judged s ≡ 0) × (n ≡ entries s)
+pub sound_accepted : (s : List ℕ) (n : ℕ) → Sound s n → (judged s ≡ Ok tt) × (n ≡ entries s)
 sound_accepted s n g = let e = counted s n g in (passed_judged s (sound_passed s (rw e at g)), e)
 
--- It has a whole header; v is the fault that the code has in hand.
-pub accepted_least : (s : List ℕ) (v : ℕ) → v ≡ judged s → v ≡ 0 → 16 ≤ length s
-accepted_least s v w e = (accepted s (sym w ∙ e)).least
+-- It has a whole header.
+pub accepted_least : (s : List ℕ) → Ok tt ≡ judged s → 16 ≤ length s
+accepted_least s e = (accepted s (sym e)).least
 
 -- The table of an accepted package lies inside it, as the code has it in hand.
-pub table_inside : (s t : List ℕ) (n v : ℕ) → t ≡ behind s → n ≡ count t → v ≡ judged s → v ≡ 0 → 16 + 40 * n ≤ length s
-table_inside s t n v is-t is-n w e = let h : 16 + 40 * entries s + 40 ≤ length s = (accepted s (sym w ∙ e)).whole in rw (is-n, is-t) (omega arith)
+pub table_inside : (s t : List ℕ) (n : ℕ) → t ≡ behind s → n ≡ count t → Ok tt ≡ judged s → 16 + 40 * n ≤ length s
+table_inside s t n is-t is-n e = let h : 16 + 40 * entries s + 40 ≤ length s = (accepted s (sym e)).whole in rw (is-n, is-t) (omega arith)
 
 -- ---- the theorems: one image
 -- What is found is the image of the identifier asked for, and lies inside the package.
-pub found : (s id : List ℕ) (a l : ℕ) → located s id ≡ At a l → Held s id a l
+pub found : (s id : List ℕ) (a l : ℕ) → located s id ≡ Ok (record { start = a; size = l }) → Held s id a l
 unfolding located doubts placed Clear sought holds
 found s id a l e =
-    sieved (λ (x : Found). x ≡ At a l → Held s id a l) Refused (doubts (judged s) (behind s) (entries s) id) (placed (behind s) (sought (behind s) (entries s) id))
-    (λ v q. absurd (let z : ◌≡◌ {A = ℕ} 0 1 = cc in omega arith))
-    (λ c q. let t = behind s in
+    let t = behind s in
     let k = sought t (entries s) id in
-    let h : k < entries s = ltb-true k (entries s) (not-false _ (not_second (same id 0 zeros 0) _ c.1.0)) in
+    let b = both_accept (judged s) _ _ e in
+    let d = accepted_clear (doubts t (entries s) id) (placed t k) (record { start = a; size = l }) b.1 in
+    let h : k < entries s = ltb-true k (entries s) (not-false _ (not_second (same id 0 zeros 0) _ d.0.0)) in
     let f = first_is (holds t id) 0 (entries s) in
-    let x : offset t k ≡ a = cc in
-    let y : size t k ≡ l = cc in
-    let g = accepted s (eqb-true (judged s) 0 (not-false _ c.0)) in
+    let x : offset t k ≡ a = ap (λ (p : Part). p.start) d.1 in
+    let y : size t k ≡ l = ap (λ (p : Part). p.size) d.1 in
+    let g = accepted s b.0 in
     record {
       sound = g;
       at = k;
@@ -235,14 +234,14 @@ found s id a l e =
       begins = x;
       long = y;
       within = omega (arith, g.inside k h);
-    }) e
+    }
 
 -- It lies there, as the code has the answer in hand.
-pub found_inside : (s id : List ℕ) (y : Found) (a l : ℕ) → y ≡ located s id → y ≡ At a l → a + l ≤ length s
-found_inside s id y a l w e = (found s id a l (at_is (located s id) y w a l e)).within
+pub found_inside : (s id : List ℕ) (y : Result Part Fault) (q : Part) → y ≡ located s id → y ≡ Ok q → q.start + q.size ≤ length s
+found_inside s id y q w e = (found s id q.start q.size (ok_is (located s id) y w q e)).within
 
 -- Each image of an accepted package is found by its identifier.
-module _ (s id : List ℕ) (k : ℕ) (ok : judged s ≡ 0) (known : k < entries s) (asked : (b : ℕ) → b < 16 → id_byte s k b ≡ get_or id b 0) where
+module _ (s id : List ℕ) (k : ℕ) (ok : judged s ≡ Ok tt) (known : k < entries s) (asked : (b : ℕ) → b < 16 → id_byte s k b ≡ get_or id b 0) where
   from_zero : (l : List ℕ) (b : ℕ) → get_or l (0 + b) 0 ≡ get_or l b 0
   from_zero l b = let z : 0 + b ≡ b = omega arith in rw z
 
@@ -269,33 +268,42 @@ module _ (s id : List ℕ) (k : ℕ) (ok : judged s ≡ 0) (known : k < entries 
       (λ y. absurd ((accepted s ok).single k j known (omega arith) (eqb-false k j y)
       (λ b h. same_bytes t (entry k) id 0 has_name b h ∙ sym (same_bytes t (entry j) id 0 g b h))))
 
-  pub found_by_name : located s id ≡ At (start s k) (bytes s k)
+  pub found_by_name : located s id ≡ Ok (record { start = start s k; size = bytes s k })
+  unfolding located doubts placed Clear
   found_by_name =
-      sym (locating s (behind s) (entries s) refl refl id (judged s) k _ _ refl only_one refl refl _
-      (goes _ _ _ _ _ _ (rw (eq-eqb (judged s) 0 ok)) (goes _ _ _ _ _ _ (neither _ _ not_blank (rw (lt-ltb k (entries s) known))) (ends _ _ _ refl))))
+      rw (ok, ← only_one)
+      (sym (clear_accepted (refuses (same id 0 zeros 0 || not (ltb k (entries s))) NoImage ∷ []) (placed (behind s) k)
+      (neither _ _ not_blank (rw (lt-ltb k (entries s) known)), tt)))
 
 -- A refused read shows an empty part.
-pub refused_empty : (s id : List ℕ) (v : ℕ) → located s id ≡ Refused v → part_of s (located s id) ≡ []
-refused_empty s id v e = sym (refused_part (located s id) (located s id) refl v e s)
+pub refused_empty : (s id : List ℕ) (f : Fault) → located s id ≡ Err f → part_of s (located s id) ≡ []
+refused_empty s id f e = sym (refused_part (located s id) (located s id) refl f e s)
 
 -- ---- the theorems: a status
 -- That of a found image is 0.
-pub found_status : (s id : List ℕ) (a l : ℕ) → located s id ≡ At a l → status_of (located s id) ≡ 0
-found_status s id a l e = sym (at_status (located s id) (located s id) refl a l e)
+pub found_status : (s id : List ℕ) (a l : ℕ) → located s id ≡ Ok (record { start = a; size = l }) → status_of (located s id) ≡ 0
+unfolding status_of
+found_status s id a l e = rw e
 
 -- That of a package is 0 or the number of a refusal, and that of a refused question is such a number.
-pub judged_status : (s : List ℕ) → Status (judged s)
-unfolding judged faults sieve
+pub judged_status : (s : List ℕ) → Status (status_of (judged s))
+unfolding judged faults sieve status_of
 judged_status s =
-    chosen Status _ _ _ (λ e. inr (lit≤ tt, lit≤ tt)) (λ e.
-    chosen Status _ _ _ (λ e. inr (lit≤ tt, lit≤ tt)) (λ e.
-    chosen Status _ _ _ (λ e. inr (lit≤ tt, lit≤ tt)) (λ e.
-    chosen Status _ _ _ (λ e. inr (lit≤ tt, lit≤ tt)) (λ e.
-    chosen Status _ _ _ (λ e. inr (lit≤ tt, lit≤ tt)) (λ e. inl refl)))))
+    let P : Result ⊤ Fault → Type 0 = λ r. Status (status_of r) in
+    chosen P _ _ _ (λ e. inr (lit≤ tt, lit≤ tt)) (λ e.
+    chosen P _ _ _ (λ e. inr (lit≤ tt, lit≤ tt)) (λ e.
+    chosen P _ _ _ (λ e. inr (lit≤ tt, lit≤ tt)) (λ e.
+    chosen P _ _ _ (λ e. inr (lit≤ tt, lit≤ tt)) (λ e.
+    chosen P _ _ _ (λ e. inr (lit≤ tt, lit≤ tt)) (λ e. inl refl)))))
+
+-- of a package's answer and a question's
+told_of : (x : Result ⊤ Fault) (y : Result Part Fault) → Status (status_of x) → Told y → Told (result_and x y)
+unfolding status_of Told
+told_of (Ok tt) y r t = t
+told_of (Err f) y r t = ⊎_elim (λ (z : number_of f ≡ 0). absurd (omega (arith, number_low f))) (λ r. r) r
 
 pub located_status : (s id : List ℕ) → Told (located s id)
-unfolding located doubts placed sieve Told
+unfolding located doubts sieve Told
 located_status s id =
-    chosen Told _ _ _
-    (λ e. ⊎_elim (λ z. absurd (yes_or_no _ e (rw (eq-eqb (judged s) 0 z)))) (λ r. r) (judged_status s))
-    (λ e. chosen Told _ _ _ (λ e. (lit≤ tt, lit≤ tt)) (λ e. tt))
+    told_of (judged s) _ (judged_status s)
+    (chosen Told _ _ _ (λ e. (lit≤ tt, lit≤ tt)) (λ e. tt))

@@ -1,7 +1,10 @@
 // The packages that the cases begin with, and what is changed in them.
+ghost use Rattle.std.specs.Prelude.{◌≤◌};
+
+use fip_entries::{ENTRY_SIZE, HEADER_SIZE, MOST_BYTES};
 
 // Room for one byte more than a package may have.
-const SPACE: usize = 65537;
+const SPACE: usize = MOST_BYTES + 1;
 
 pub(crate) type Pack = [u8; SPACE];
 
@@ -13,20 +16,15 @@ pub(crate) type Fields = [u64; 7];
 
 // A number in eight bytes, the lowest first; nothing where one of them would lie past the end.
 fn set(pack: &mut Pack, at: usize, v: u64) {
-    if SPACE - 8 < at {
-        return;
-    }
-    let mut rest = v;
-    let mut i: usize = 0;
-    while i < 8 {
-        pack[at + i] = (rest % 256) as u8;
-        rest = rest / 256;
-        i += 1;
+    if at <= SPACE - 8 {
+        pack[at..at + 8].copy_from_slice(&v.to_le_bytes());
     }
 }
 
-// How many bytes image k has, and how many those before it have together.
-fn size(k: u8) -> u64 {
+// How many bytes image k has.
+fn size(k: u8) -> u64
+    ensures { result ≤ 5 }
+{
     match k {
         0 => 5,
         2 => 3,
@@ -34,20 +32,11 @@ fn size(k: u8) -> u64 {
     }
 }
 
-fn before(k: u8) -> u8 {
-    match k {
-        0 => 0,
-        1 => 5,
-        2 => 5,
-        _ => 8,
-    }
-}
-
-// Entry k, whose identifier begins with k + 1 and is zero else. The first image lies at `from`.
-fn set_entry(pack: &mut Pack, k: u8, from: u32) {
-    let at = 16 + 40 * k as usize;
-    set(pack, at, 1 + k as u64);
-    set(pack, at + 16, from as u64 + before(k) as u64);
+// Entry k, whose identifier begins with k + 1 and is zero else.
+fn set_entry(pack: &mut Pack, k: u8, offset: u64) {
+    let at = HEADER_SIZE + ENTRY_SIZE * usize::from(k);
+    set(pack, at, u64::from(k) + 1);
+    set(pack, at + 16, offset);
     set(pack, at + 24, size(k));
 }
 
@@ -55,10 +44,10 @@ fn set_entry(pack: &mut Pack, k: u8, from: u32) {
 fn package(n: u8) -> Pack {
     let mut pack = [0u8; SPACE];
     set(&mut pack, 0, HEADER);
-    let mut k: u8 = 0;
-    while k < n {
-        set_entry(&mut pack, k, 56 + 40 * n as u32);
-        k += 1;
+    let mut offset = 56 + 40 * u64::from(n);
+    for k in 0..n {
+        set_entry(&mut pack, k, offset);
+        offset += size(k);
     }
     pack
 }

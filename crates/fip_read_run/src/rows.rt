@@ -17,17 +17,41 @@ struct Row {
     at: usize,
 }
 
-fn say(rt: &impl Print, text: &[u8]) -> io::Result<()> {
-    rt.write_all(text)
+// A number that is not given is all bits, which is no place.
+const NONE: u64 = u64::MAX;
+
+const FRESH: Row = Row {
+    fields: [0, NONE, NONE, NONE, NONE, NONE, NONE],
+    at: 0,
+};
+
+impl Row {
+    // A space begins the next field.
+    fn begin(&mut self)
+        requires { self.old.at < 7 }
+    {
+        self.at += 1;
+        if self.at < TEXT {
+            self.fields[self.at] = 0;
+        }
+    }
+
+    // One more digit, 0 to 9 or a to f.
+    fn add(&mut self, b: u8)
+        requires { self.old.at < 7 }
+    {
+        let digit = u64::from(b % 16 + b / 64 * 9);
+        let field = &mut self.fields[self.at];
+        *field = *field % 0x100000000000000 * 16 + digit;
+    }
 }
 
 // Asks the first `length` bytes for the identifier that begins with a number and is zero else.
 fn ask(rt: &impl Print, pack: &Pack, length: usize, n: u8) -> io::Result<()> {
-    let bytes: &[u8] = pack;
     let mut id = [0u8; 16];
     id[0] = n;
-    if length <= bytes.len() {
-        let status = fip_read::status(&bytes[0..length], &id);
+    if let Some(lent) = pack.get(..length) {
+        let status = fip_read::status(lent, &id);
         print!(rt; "{status:02x}")?;
     }
     Ok(())
@@ -35,72 +59,29 @@ fn ask(rt: &impl Print, pack: &Pack, length: usize, n: u8) -> io::Result<()> {
 
 fn play(rt: &impl Print, fields: Fields) -> io::Result<()> {
     let pack = packs::package_of(fields);
-    say(rt, b": ")?;
+    print!(rt; ": ")?;
     ask(rt, &pack, fields[1] as usize, (fields[2] % 256) as u8)?;
-    say(rt, b"\n")
+    println!(rt)
 }
 
-// A number that is not given is all bits, which is no place.
-fn fresh() -> Row {
-    let mut fields = [u64::MAX; TEXT];
-    fields[0] = 0;
-    Row { fields, at: 0 }
-}
-
-// A space begins the next field.
-fn begin(row: Row) -> Row
-    requires { row.at < 7 }
-{
-    let mut fields = row.fields;
-    let at = row.at + 1;
-    if at < TEXT {
-        fields[at] = 0;
-    }
-    Row { fields, at }
-}
-
-// One more digit, 0 to 9 or a to f.
-fn add(row: Row, b: u8) -> Row
-    requires { row.at < 7 }
-{
-    let mut fields = row.fields;
-    let at = row.at;
-    let digit = b % 16 + b / 64 * 9;
-    fields[at] = fields[at] % 0x100000000000000 * 16 + digit as u64;
-    Row { fields, at }
-}
-
-fn end(row: Row) -> Row {
-    let fields = row.fields;
-    Row {
-        fields,
-        at: TEXT - 1,
-    }
-}
-
-fn step(rt: &impl Print, row: Row, b: u8) -> io::Result<Row> {
-    if b == b'\n' {
-        let fields = row.fields;
-        play(rt, fields)?;
-        return Ok(fresh());
-    }
-    if TEXT <= row.at {
-        say(rt, &[b])?;
-        return Ok(row);
-    }
+fn step(rt: &impl Print, row: &mut Row, b: u8) -> io::Result<()> {
     match b {
-        b':' => Ok(end(row)),
-        b' ' => Ok(begin(row)),
-        _ => Ok(add(row, b)),
+        b'\n' => {
+            play(rt, row.fields)?;
+            *row = FRESH;
+        }
+        _ if TEXT <= row.at => rt.write_all(&[b])?,
+        b':' => row.at = TEXT - 1,
+        b' ' => row.begin(),
+        _ => row.add(b),
     }
+    Ok(())
 }
 
 pub(crate) fn play_all(rt: &impl Print, input: &[u8]) -> io::Result<()> {
-    let mut row = fresh();
-    let mut i: usize = 0;
-    while i < input.len() {
-        row = step(rt, row, input[i])?;
-        i += 1;
+    let mut row = FRESH;
+    for b in input {
+        step(rt, &mut row, *b)?;
     }
     Ok(())
 }

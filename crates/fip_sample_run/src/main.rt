@@ -2,10 +2,8 @@
 // one of our own. The second image is of no bytes.
 #![tactic(auto)]
 
-use fip_write::Outcome;
+use fip_entries::ENTRY_SIZE;
 use std::io;
-
-const ENTRY: usize = 40;
 
 // Trusted Boot Firmware BL2.
 fn boot() -> [u8; 16] {
@@ -24,17 +22,16 @@ fn hours() -> [u8; 16] {
 
 fn main(rt: HostRuntime) -> io::Result<()> {
     let pool = b"pump 7 starts at 06:00\nrunning hours 1204, bearings at 900\n";
-    let mut plan = [0u8; 3 * ENTRY];
+    let mut plan = [0u8; 3 * ENTRY_SIZE];
     fip_plan::plan_image(&mut plan, 0, &boot(), 0, 23, 0);
     fip_plan::plan_image(&mut plan, 1, &normal(), 23, 0, 0);
     fip_plan::plan_image(&mut plan, 2, &hours(), 23, 36, 7);
     let mut out = [0u8; 4096];
-    let Outcome::Written(n) = fip_write::write(0x12345678, 0, &plan, pool, &mut out) else {
+    let Ok(n) = fip_write::write(0x12345678, 0, &plan, pool, &mut out) else {
         return Ok(());
     };
-    let whole: &[u8] = &out;
-    if n <= whole.len() {
-        rt.write_all(&whole[0..n])?;
+    match out.get(..n) {
+        Some(package) => rt.write_all(package),
+        None => Ok(()),
     }
-    Ok(())
 }

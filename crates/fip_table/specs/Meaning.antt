@@ -1,11 +1,12 @@
 -- What the tests of a table mean, as plain statements about bytes and numbers.
-use Rattle.std.specs.Prelude.{◌≡◌, Bool, true, not, ◌||◌, List, ℕ, ◌+◌, ◌*◌, ◌/◌, ◌≤◌, ◌<◌, ltb, eqb, length, get_or}
+use Rattle.std.specs.Prelude.{◌≡◌, Bool, true, not, ◌||◌, List, ℕ, ◌+◌, ◌*◌, ◌/◌, ◌≤◌, ◌<◌, ltb, eqb, length, get_or, Option, Some, None, MatchOption}
+use Rattle.std.specs.Option.{unwrap_or}
 use Rattle.std.proofs.Math.Path.{sym}
 use Rattle.std.proofs.Common.{◌∙◌, arith}
 use Rattle.std.proofs.Math.Bool.{false}
 use borrow.Author.Tests.{ltb-true, ltb-false, le-ltb, eqb-false, ne_eqb, not-false}
 use Rattle.rules.specs.Choice.{chosen, either, yes_or_no, left_false, right_false, neither, not_first, not_second, not_true}
-use Rattle.tools.specs.Search.{any, Firstly, first_is, any_not, any_if_not}
+use Rattle.tools.specs.Search.{any, first, Firstly, first_is, any_not, any_if_not}
 use Rattle.fip_entries.specs.Entries.{entry, offset, size, zeros, outside, shares, same_bytes, bytes_same, zeros_byte, rest_false}
 use Rattle.fip_table.specs.Table.{blank, twins, repeated, doubled, strays, table_end, covers, crowded, slots, count, unended}
 
@@ -75,6 +76,19 @@ firstly_one p a n j k f g =
     (λ y. let h = ltb-true j k y in absurd (yes_or_no (p j) (f.passes (omega (arith, g.high))) (g.before j f.low h)))
     (λ y. either (ltb k j) (λ z. let h = ltb-true k j z in absurd (yes_or_no (p k) (g.passes (omega (arith, f.high))) (f.before k g.low h)))
     (λ z. let h = ltb-false j k y in let l = ltb-false k j z in omega arith))
+
+-- a chain that finds the first number below n that passes, or else has n
+pub found_first :
+    (p : ℕ → Bool) (n : ℕ) (o : Option ℕ) → MatchOption o ((k : ℕ) → 0 ≤ k → k < n → p k ≡ false) (λ i. (0 ≤ i) × (i < n) × (p i ≡ true) × ((k : ℕ) → 0 ≤ k → k < i → p k ≡ false)) →
+    unwrap_or o n ≡ first p 0 n
+found_first p n None f =
+    firstly_one p 0 n n (first p 0 n)
+    (record { low = omega arith; high = omega arith; before = λ i h l. f i h l; passes = λ h. absurd (omega arith) })
+    (first_is p 0 n)
+found_first p n (Some i) f =
+    firstly_one p 0 n i (first p 0 n)
+    (record { low = f.0; high = omega (arith, f.1); before = λ k h l. f.3 k h l; passes = λ h. f.2 })
+    (first_is p 0 n)
 
 module _ (t : List ℕ) where
   pub count_is : Firstly (blank t) 0 (slots (length t)) (count t)

@@ -1,6 +1,6 @@
 -- A table: entries of 40 bytes each, one behind the other. Of a package it is what follows the header.
-use Rattle.std.specs.Prelude.{◌≡◌, Bool, true, false, not, ◌&&◌, ◌||◌, List, ℕ, ◌+◌, ◌*◌, ◌/◌, ◌≤◌, ◌<◌, ltb, eqb, length}
-use borrow.Author.Tests.{lt-ltb, le-ltb, eq-eqb, ne_eqb}
+use Rattle.std.specs.Prelude.{◌≡◌, Bool, false, not, ◌&&◌, ◌||◌, List, ℕ, ◌+◌, ◌*◌, ◌/◌, ◌<◌, ltb, eqb, length}
+use borrow.Author.Tests.{lt-ltb}
 use Rattle.rules.specs.Choice.{pick}
 use Rattle.tools.specs.Search.{any, first}
 use Rattle.fip_entries.specs.Entries.{entry, offset, size, same, zeros, outside, shares}
@@ -59,25 +59,8 @@ count t = first (blank t) 0 (slots (length t))
 unfoldable pub unended : List ℕ → Bool
 unended t = not (ltb (count t) (slots (length t)))
 
--- ---- one law for each answer of a test
-module _ (t : List ℕ) (i n : ℕ) where
-  pub covers_empty : size t i ≡ 0 → false ≡ covers t n i
-  unfolding covers
-  covers_empty h = rw (eq-eqb (size t i) 0 h)
-
-  pub covers_table : (size t i ≡ 0 → ⊥) → offset t i < table_end n → true ≡ covers t n i
-  unfolding covers
-  covers_table z h = rw (ne_eqb (size t i) 0 z, lt-ltb (offset t i) (table_end n) h)
-
-  pub covers_rest : (size t i ≡ 0 → ⊥) → table_end n ≤ offset t i → any (shares t i) 0 i ≡ covers t n i
-  unfolding covers
-  covers_rest z h = rw (ne_eqb (size t i) 0 z, le-ltb (offset t i) (table_end n) h)
-
+-- ---- a table that ends
 module _ (t : List ℕ) where
   pub ended : count t < slots (length t) → false ≡ unended t
   unfolding unended
   ended h = rw (lt-ltb _ _ h)
-
-  pub endless : slots (length t) ≤ count t → true ≡ unended t
-  unfolding unended
-  endless h = rw (le-ltb _ _ h)

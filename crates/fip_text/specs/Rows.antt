@@ -1,103 +1,103 @@
--- The table of names as rows of one length, and the search in it.
-use Rattle.std.specs.Prelude.{◌≡◌, refl, Bool, true, false, ℕ, zero, suc, ◌+◌, ◌-◌, ◌≤◌, ◌<◌, ltb, eqb, get_or, take, drop, replicate}
-use Rattle.std.proofs.Math.Path.{sym, ap}
-use Rattle.std.proofs.Common.{◌∙◌, arith, lt-ltb, le-ltb, eqb-true}
-use mathlib.Core.List.{List, [], ◌∷◌, ◌++◌, map}
+-- The table of names as rows, and the search in it.
+use Rattle.std.specs.Prelude.{◌≡◌, refl, Option, Some, None, MatchOption, Bool, true, false, ◌&&◌, ℕ, ◌+◌, ◌≤◌, leb}
+use Rattle.std.proofs.Common.{◌<◌, sym, ◌∙◌, arith, add-one, get_or, drop, drop_of_length-le}
+use Rattle.std.proofs.Math.Seq.{drop-cons}
+use borrow.Author.Tests.{leb-true}
+use mathlib.Core.List.{List, [], ◌∷◌, map}
 use Prim.Native.String.{String}
-use Rattle.std.proofs.Math.ListN.{length, length-drop}
-use Rattle.std.proofs.Math.Seq.{length-take-le}
-use Rattle.rules.specs.Choice.{pick, pick_yes, pick_no, by}
-use Rattle.tools.specs.Search.{all, all_at, first}
+use Rattle.std.proofs.Math.ListN.{length}
+use Rattle.rules.specs.Choice.{pick, pick_yes, pick_no, by, either, left_true, right_true}
+use Rattle.tools.specs.Search.{all}
 use Rattle.tools.specs.Laid.{laid}
 use Rattle.hex_digits.specs.Signs.{signs}
 use Rattle.fip_identifiers.specs.Identifiers.{agree}
+use Rattle.fip_text.specs.declared.names.TheConstants.{KNOWN}
 use Rattle.fip_text.specs.Names.{names, is_text, name_among, name_text}
-use Rattle.writing.specs.Pieces.{Stands}
+use Rattle.writing.specs.Pieces.{Stands, stands_then}
 
--- an identifier, a space and its name, filled up to 88 bytes with dots
-unfoldable pub filled : String × String → List ℕ
-filled p = take 88 (signs p.0 ++ (32 ∷ (signs p.1 ++ replicate 52 46)))
+-- the name in the first row that has the identifier in the text
+unfoldable pub named : List (List ℕ × List ℕ) → List ℕ → Option (List ℕ)
+named [] id = None
+named (p ∷ ps) id = pick (all (agree p.0 id) 0 36) (Some p.1) (named ps id)
 
--- the table
-unfoldable pub known : List (List ℕ)
-known = map filled names
+-- what is put of it: a space and the name, or nothing
+unfoldable shown : Option (List ℕ) → List ℕ
+shown None = []
+shown (Some name) = 32 ∷ name
 
-unfoldable pub row : ℕ → List ℕ
-row k = get_or known k []
+-- ---- the rows are those of the definition
+spelled : String × String → List ℕ × List ℕ
+spelled p = (signs p.0, signs p.1)
 
--- row k is that of the identifier in the text
-unfoldable pub is_row : List ℕ → ℕ → Bool
-is_row id k = all (agree (row k) id) 0 36
+known : map (λ k. (k.0.now, k.1.now)) KNOWN ≡ map spelled names
+unfolding spelled names
+known = refl
 
--- the first such row, or the number of rows
-unfoldable pub row_of : List ℕ → ℕ
-row_of id = first (is_row id) 0 34
+shown_among : (ps : List (String × String)) (id : List ℕ) → shown (named (map spelled ps) id) ≡ name_among ps id
+unfolding spelled shown named name_among is_text
+shown_among [] id = refl
+shown_among (p ∷ ps) id =
+    by (λ (b : Bool). shown (pick b (Some (signs p.1)) (named (map spelled ps) id)) ≡ pick b (32 ∷ signs p.1) (name_among ps id)) (all (agree (signs p.0) id) 0 36)
+    (λ y. rw (pick_yes true (Some (signs p.1)) (named (map spelled ps) id), pick_yes true (32 ∷ signs p.1) (name_among ps id)) refl)
+    (λ n. rw (pick_no false (Some (signs p.1)) (named (map spelled ps) id), pick_no false (32 ∷ signs p.1) (name_among ps id)) (shown_among ps id))
 
--- place i of a row holds a dot; the first of them ends the name
-unfoldable pub dot_at : List ℕ → ℕ → Bool
-dot_at r i = eqb (get_or r i 0) 46
+shown_is : (id : List ℕ) → shown (named (map (λ k. (k.0.now, k.1.now)) KNOWN) id) ≡ name_text id
+unfolding name_text
+shown_is id = rw known (shown_among names id)
 
-unfoldable pub end_of : List ℕ → ℕ
-end_of r = first (dot_at r) 36 52
+-- ---- no name is longer than 51 bytes
+short : List (List ℕ × List ℕ) → Bool
+short [] = true
+short (p ∷ ps) = leb (length p.1) 51 && short ps
 
--- a space and the name in a row
-unfoldable pub name_in : List ℕ → List ℕ
-name_in r = take (end_of r - 36) (drop 36 r)
+named_short : (ps : List (List ℕ × List ℕ)) (id name : List ℕ) → short ps ≡ true → named ps id ≡ Some name → length name ≤ 51
+unfolding short named
+named_short [] id name s e = cc
+named_short (p ∷ ps) id name s e =
+    let b = all (agree p.0 id) 0 36 in
+    either b
+    (λ y. let same : p.1 ≡ name = (let f : Some p.1 ≡ Some name = sym (pick_yes b (Some p.1) (named ps id) y) ∙ e in cc) in
+    rw (← same) (leb-true _ _ (left_true (leb (length p.1) 51) (short ps) s)))
+    (λ n. named_short ps id name (right_true (leb (length p.1) 51) (short ps) s) (sym (pick_no b (Some p.1) (named ps id) n) ∙ e))
 
--- ---- a row of the table, whatever stands for one that is not there
-any_default : {A : Type 0} (l : List A) (k : ℕ) (d e : A) → k < length l → get_or l k d ≡ get_or l k e
-any_default [] k d e h = absurd (omega arith)
-any_default (x ∷ xs) zero d e h = refl
-any_default (x ∷ xs) (suc k) d e h = any_default xs k d e (omega arith)
+-- ---- the search, row by row: those from i on are still to be seen
+module _ {A : Type 0} (f : A → List ℕ × List ℕ) (rows : List A) (id : List ℕ) (i : ℕ) (e : named (map f rows) id ≡ named (map f (drop i rows)) id) where
+  module _ (d : A) (h : i < length rows) where
+    pub named_here : all (agree (f (get_or rows i d)).0 id) 0 36 ≡ true → named (map f rows) id ≡ Some (f (get_or rows i d)).1
+    unfolding named
+    named_here y = e ∙ rw (drop-cons rows i d h) (pick_yes _ _ _ y)
 
-pub row_is : (k : ℕ) (d : List ℕ) → k < 34 → get_or known k d ≡ row k
-unfolding row known names
-row_is k d h = any_default known k d [] h
+    pub named_next : all (agree (f (get_or rows i d)).0 id) 0 36 ≡ false → named (map f rows) id ≡ named (map f (drop (i + 1) rows)) id
+    unfolding named
+    named_next n = e ∙ rw (drop-cons rows i d h, add-one) (pick_no _ _ _ n)
 
-pub row_alike : (s id : List ℕ) (k : ℕ) (r : Bool) → s ≡ row k → r ≡ all (agree s id) 0 36 → r ≡ is_row id k
-unfolding is_row
-row_alike s id k r e h = rw (← e) h
+  pub named_none : length rows ≤ i → named (map f rows) id ≡ None
+  unfolding named
+  named_none h = e ∙ rw (drop_of_length-le rows h)
 
--- every row is filled
-row_size : (k : ℕ) → k < 34 → length (row k) ≡ 88
-unfolding all row known names filled
-row_size k h =
-    let right : ℕ → Bool = λ i. eqb (length (row i)) 88 in
-    eqb-true _ _ (all_at right 0 34 k refl (omega arith) (omega arith))
+-- ---- the name, or nothing
+module _ (id : List ℕ) where
+  no_name : named (map (λ k. (k.0.now, k.1.now)) KNOWN) id ≡ None → name_text id ≡ []
+  unfolding shown
+  no_name e = sym (shown_is id) ∙ rw e
 
--- ---- the first row that fits has the name that the definition gives
--- what is chosen by the first number that passes
-unfoldable chosen_by : (ℕ → Bool) → (ℕ → List ℕ) → ℕ → ℕ → List ℕ
-chosen_by p f a zero = []
-chosen_by p f a (suc n) = pick (p a) (f a) (chosen_by p f (suc a) n)
+  its_name : (name : List ℕ) → named (map (λ k. (k.0.now, k.1.now)) KNOWN) id ≡ Some name → (name_text id ≡ 32 ∷ name) × (length name ≤ 51)
+  unfolding shown short
+  its_name name e = (sym (shown_is id) ∙ rw e, named_short (map (λ k. (k.0.now, k.1.now)) KNOWN) id name refl e)
 
-by_first : (p : ℕ → Bool) (f : ℕ → List ℕ) (a n : ℕ) → pick (ltb (first p a n) (a + n)) (f (first p a n)) [] ≡ chosen_by p f a n
-unfolding chosen_by first
-by_first p f a zero = pick_no (ltb a (a + 0)) (f a) [] (le-ltb a (a + 0) (omega arith))
-by_first p f a (suc n) =
-    let e : a + suc n ≡ suc a + n = omega arith in
-    by (λ (b : Bool). pick (ltb (pick b a (first p (suc a) n)) (a + suc n)) (f (pick b a (first p (suc a) n))) [] ≡ pick b (f a) (chosen_by p f (suc a) n)) (p a)
-    (λ y. rw (pick_yes true a (first p (suc a) n), pick_yes true (f a) (chosen_by p f (suc a) n)) (pick_yes (ltb a (a + suc n)) (f a) [] (lt-ltb a (a + suc n) (omega arith))))
-    (λ y. rw (pick_no false a (first p (suc a) n), pick_no false (f a) (chosen_by p f (suc a) n), e) (by_first p f (suc a) n))
+pub name_or_none :
+    {A : Type 0} (text : A → List ℕ) (id : List ℕ) (r : Option A)
+    → MatchOption r (named (map (λ k. (k.0.now, k.1.now)) KNOWN) id ≡ None) (λ name. named (map (λ k. (k.0.now, k.1.now)) KNOWN) id ≡ Some (text name))
+    → MatchOption r (name_text id ≡ []) (λ name. (name_text id ≡ 32 ∷ text name) × (length (text name) ≤ 51))
+name_or_none text id None h = no_name id h
+name_or_none text id (Some name) h = its_name id (text name) h
 
-name_is : (id : List ℕ) → pick (ltb (row_of id) 34) (name_in (row (row_of id))) [] ≡ name_text id
-unfolding row_of chosen_by is_row row known filled names name_in end_of dot_at name_text name_among is_text all first pick
-name_is id = by_first (is_row id) (λ (k : ℕ). name_in (row k)) 0 34
-
--- ---- the name put, or nothing
-module _ (id : List ℕ) (k : ℕ) (q : k ≡ row_of id) (o : List ℕ) (at : ℕ) where
+module _ (o : List ℕ) (at : ℕ) (id : List ℕ) where
   pub name_put :
-      (r s o' : List ℕ) (e : ℕ) → k < 34 → r ≡ row k → e ≡ end_of r → 36 ≤ e → e ≤ 88 → s ≡ take (e - 36) (drop 36 r) → o' ≡ laid o at s → Stands o at (name_text id) (at + (e - 36)) o'
-  unfolding name_in
-  name_put r s o' e h f g l m w p =
-      let same : s ≡ name_text id =
-      w ∙ rw (g, f, q) (sym (pick_yes (ltb (row_of id) 34) (name_in (row (row_of id))) [] (lt-ltb (row_of id) 34 (rw q at h)))) ∙ name_is id in
-      let size = row_size k h in
-      let long : length s ≡ e - 36 = ap length w ∙ length-take-le (e - 36) (drop 36 r) (rw (f, length-drop, size) (omega arith)) in
-      record { behind = rw (← same, long); bytes = p ∙ ap (laid o at) same }
+      (o₁ o₂ name : List ℕ) (a r : ℕ) → name_text id ≡ 32 ∷ name → length name ≤ 51 → Stands o at (32 ∷ []) a o₁ → Stands o₁ a name r o₂ →
+      Stands o at (name_text id) r o₂ × (r ≤ at + 52)
+  name_put o₁ o₂ name a r e h s d = (rw e (stands_then o o₁ o₂ (32 ∷ []) name at a r s d), omega (arith, s.behind, d.behind))
 
-  pub name_none : 34 ≤ k → Stands o at (name_text id) at o
+  pub name_none : name_text id ≡ [] → Stands o at (name_text id) at o
   unfolding laid
-  name_none h =
-      let e : name_text id ≡ [] = sym (name_is id) ∙ pick_no (ltb (row_of id) 34) (name_in (row (row_of id))) [] (le-ltb (row_of id) 34 (rw q at h)) in
-      record { behind = rw e (omega arith); bytes = rw e }
+  name_none e = rw e (record { behind = omega arith; bytes = refl })

@@ -1,7 +1,8 @@
 -- The list of a package: a line for each of its images, and no line where it is refused. The theorems come last.
-use Rattle.std.specs.Prelude.{◌≡◌, List, [], ltb, eqb, length, take}
+use Rattle.std.specs.Prelude.{◌≡◌, List, [], ltb, length, take, Ok}
+use Rattle.std.specs.Result.{is_ok}
 use Rattle.std.proofs.Math.Path.{refl}
-use Rattle.std.proofs.Common.{◌∙◌, arith, length-drop, length-take-le, ltb-false, eq-eqb}
+use Rattle.std.proofs.Common.{◌∙◌, arith, length-drop, length-take-le, ltb-false}
 use Prim.Native.Nat.{ℕ, zero, suc, ◌+◌, ◌*◌, ◌/◌, ◌≤◌}
 use Rattle.std.proofs.Math.Seq.{get_or-take}
 use Rattle.rules.specs.Choice.{pick, pick_yes, pick_no, either}
@@ -55,16 +56,16 @@ listed_all t n h e =
 
 -- ---- the theorems
 -- The list of an accepted package has the line of each of its entries, in their order.
-pub every_image : (s : List ℕ) → judged s ≡ 0 → list_text (tabled s) ≡ lines_text (behind s) 0 (entries s)
+pub every_image : (s : List ℕ) → judged s ≡ Ok tt → list_text (tabled s) ≡ lines_text (behind s) 0 (entries s)
 unfolding list_text tabled
 every_image s e =
     let p = accepted s e in
     let n = entries s in
     let room : 40 * n ≤ length (behind s) = omega (arith, p.whole, length-drop 16 s) in
     let all = listed_all (take (40 * n) (behind s)) n p.few (length-take-le (40 * n) (behind s) room) in
-    rw (pick_yes (eqb (judged s) 0) (take (40 * n) (behind s)) [] (eq-eqb _ _ e), all) (lines_part (40 * n) (behind s) 0 n (omega arith))
+    rw (pick_yes (is_ok (judged s)) (take (40 * n) (behind s)) [] (rw e), all) (lines_part (40 * n) (behind s) 0 n (omega arith))
 
 -- That of a refused one is empty.
-pub no_image : (s : List ℕ) → (judged s ≡ 0 → ⊥) → list_text (tabled s) ≡ []
+pub no_image : (s : List ℕ) → (judged s ≡ Ok tt → ⊥) → list_text (tabled s) ≡ []
 unfolding list_text listed lines_text pick
 no_image s n = rw (← untabled s n)

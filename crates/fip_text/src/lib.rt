@@ -12,24 +12,13 @@ ghost use Rattle.fip_text.specs.Line.{number_text, numbers_text, line_text, line
 // The most bytes of a list: a line has at most 152, an identifier, three numbers, a name and a newline.
 pub const LIST: usize = 9728;
 
-// The digits as a slice.
-fn whole(digits: &[u8; 20]) -> &[u8]
-    ensures { (result.now ≡ digits.now) × (length result.now ≡ 20) × (length digits.now ≡ 20) }
-{
-    digits
-}
-
 // A space and the number.
 fn put_number(out: &mut [u8], at: usize, x: u64) -> usize
     requires { at + 21 ≤ length out.old }
     ensures { Stands out.old at (number_text x) result out.new × (result ≤ at + 21) }
 {
-    let mut digits = [0u8; 20];
-    let n = io::decimal(x, &mut digits);
-    let text = whole(&digits);
-    pieces::put_byte(out, at, b' ');
-    pieces::put_text(out, at + 1, &text[0..n]);
-    at + 1 + n
+    let a = pieces::put_text(out, at, b" ");
+    writing::put_decimal(out, a, x)
 }
 
 // Offset, size and flags of an image.
@@ -48,11 +37,10 @@ fn put_line(out: &mut [u8], at: usize, t: &[u8], k: u32) -> usize
     ensures { Stands out.old at (line_text t.now k) result out.new × (result ≤ at + 152) }
 {
     let id = fip_identifiers::text_of(t, k);
-    pieces::put_text(out, at, &id);
-    let a = put_numbers(out, at + fip_identifiers::TEXT, t, k);
-    let b = names::put_name(out, a, &id);
-    pieces::put_byte(out, b, b'\n');
-    b + 1
+    let a = pieces::put_text(out, at, &id);
+    let b = put_numbers(out, a, t, k);
+    let c = names::put_name(out, b, &id);
+    pieces::put_text(out, c, b"\n")
 }
 
 // The lines of n entries.
@@ -61,12 +49,8 @@ fn put_lines(out: &mut [u8], t: &[u8], n: u32) -> usize
     ensures { Stands out.old 0 (lines_text t.now 0 n) result out.new × (result ≤ length out.new) }
 {
     let mut at: usize = 0;
-    let mut k: u32 = 0;
-    let mut unseen = n;
-    while 0 < unseen {
+    for k in 0..n {
         at = put_line(out, at, t, k);
-        k += 1;
-        unseen -= 1;
     }
     at
 }
@@ -75,11 +59,7 @@ fn put_lines(out: &mut [u8], t: &[u8], n: u32) -> usize
 fn count_of(t: &[u8]) -> u32
     ensures { (result ≡ listed t.now) × (result ≤ 64) }
 {
-    let n = t.len() / fip_entries::ENTRY_SIZE;
-    if n < fip_entries::MOST_IMAGES {
-        return n as u32;
-    }
-    fip_entries::MOST_IMAGES as u32
+    (t.len() / fip_entries::ENTRY_SIZE).min(fip_entries::MOST_IMAGES) as u32
 }
 
 // The lines of a table's entries, in their order, from the start of the space on. It returns how many bytes they are.

@@ -1,14 +1,14 @@
 -- What the reader makes of the package that is laid out for a plan which breaks no rule.
-use Rattle.std.specs.Prelude.{◌≡◌, true, not, ◌||◌, ℕ, ◌+◌, ◌*◌, ◌≤◌, ◌<◌, ltb, length, take}
+use Rattle.std.specs.Prelude.{◌≡◌, true, not, ◌||◌, ℕ, ◌+◌, ◌*◌, ◌≤◌, ◌<◌, ltb, length, take, Ok, Err}
 use Rattle.std.proofs.Math.Path.{refl, sym, ap}
 use Rattle.std.proofs.Common.{◌∙◌, length-take-le}
 use mathlib.Core.List.{List}
 use Rattle.std.proofs.Math.Logic.{inl, inr}
 use native.Mathlib.Omega.{arith}
 use Rattle.std.proofs.Math.ListN.{get_or, length-drop, get_or-replicate}
-use borrow.Author.Tests.{eq-eqb, ltb-true, ltb-false}
+use borrow.Author.Tests.{ltb-true, ltb-false}
 use Rattle.rules.specs.Choice.{pick_yes, not_true, second_or, first_or, either, yes_or_no}
-use Rattle.rules.specs.Tests.{stops, goes}
+use Rattle.rules.specs.Tests.{stops}
 use Rattle.tools.specs.Search.{first_is}
 use Rattle.fip_entries.specs.Numbers.{four, eight}
 use Rattle.fip_entries.specs.Entries.{entry, offset, size, same, zeros, same_bytes, bytes_same}
@@ -17,7 +17,7 @@ use Rattle.fip_entries.specs.Entries as Entries
 use Rattle.fip_read.specs.Reading.{behind, entries, judged, tabled, doubts, located, part_of}
 use Rattle.fip_table.specs.Meaning.{zero_blank}
 use Rattle.fip_read.specs.Accepted.{Sound, sound_accepted, found_by_name}
-use Rattle.fip_read.specs.declared.Found.TheVariants as Found
+use Rattle.fip_entries.specs.declared.Fault.TheVariants.{NoImage}
 use Rattle.fip_lay.specs.Bytes.{spell, copied, copied_is}
 use Rattle.fip_plan.specs.Plan.{total, planned}
 use Rattle.fip_write.specs.Packed.{header, row, packed, length_packed}
@@ -129,7 +129,7 @@ module _ (serial flags : ℕ) (d pool : List ℕ) (space : ℕ) (u32 : serial < 
         apart = λ i j h l e y z. either (ltb j i) (λ g. inr (later i j h (ltb-true j i g))) (λ g. let g = ltb-false j i g in inl (later j i l (omega arith)));
       }
 
-  accepted : judged p ≡ 0
+  accepted : judged p ≡ Ok tt
   accepted = (sound_accepted p n sound).0
 
   many : entries p ≡ n
@@ -138,7 +138,7 @@ module _ (serial flags : ℕ) (d pool : List ℕ) (space : ℕ) (u32 : serial < 
   -- ---- what the reader shows of the table
   shown : tabled p ≡ take (40 * n) t
   unfolding tabled
-  shown = pick_yes _ _ _ (eq-eqb (judged p) 0 accepted) ∙ rw many
+  shown = pick_yes _ _ _ (rw accepted) ∙ rw many
 
   shown_long : length (tabled p) ≡ 40 * n
   unfolding total table_end
@@ -148,7 +148,7 @@ module _ (serial flags : ℕ) (d pool : List ℕ) (space : ℕ) (u32 : serial < 
   each k h = entry_in (tabled p) k h (rw shown (copied_take t (40 * n) (entry k) 40 (omega arith) ∙ packed_row serial flags d pool n k h))
 
   -- ---- one image
-  found : (k : ℕ) → k < n → located p (identifier d k) ≡ Found.At (place d n k) (size d k)
+  found : (k : ℕ) → k < n → located p (identifier d k) ≡ Ok (record { start = place d n k; size = size d k })
   found k h =
       found_by_name p (identifier d k) k accepted (rw many h) (λ b m. id_byte k h b m ∙ sym (copied_byte d (entry k) 16 b m))
       ∙ rw ((row_entry k h).has_offset, (row_entry k h).has_size)
@@ -161,11 +161,11 @@ module _ (serial flags : ℕ) (d pool : List ℕ) (space : ℕ) (u32 : serial < 
       ∙ packed_image serial flags d pool n k h ∙ copied_is pool (offset d k) (size d k) (f.inside k h))
 
   -- ---- no image
-  refused_as : (id : List ℕ) → (same id 0 zeros 0 || not (ltb (sought t (entries p) id) (entries p))) ≡ true → located p id ≡ Found.Refused 0x86
+  refused_as : (id : List ℕ) → (same id 0 zeros 0 || not (ltb (sought t (entries p) id) (entries p))) ≡ true → located p id ≡ Err NoImage
   unfolding located doubts
-  refused_as id e = rw accepted (sym (goes _ _ _ _ _ _ refl (stops _ _ _ _ _ _ e refl)))
+  refused_as id e = rw accepted (sym (stops _ _ _ _ _ _ e refl))
 
-  absent : (id : List ℕ) → length id ≡ 16 → ((k : ℕ) → k < n → id ≡ identifier d k → ⊥) → located p id ≡ Found.Refused 0x86
+  absent : (id : List ℕ) → length id ≡ 16 → ((k : ℕ) → k < n → id ≡ identifier d k → ⊥) → located p id ≡ Err NoImage
   unfolding sought holds
   absent id e g =
       let k = sought t (entries p) id in

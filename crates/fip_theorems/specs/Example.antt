@@ -1,5 +1,5 @@
 -- A package of one image, worked out by hand.
-use Rattle.std.specs.Prelude.{◌≡◌, refl, List, [], ◌∷◌, ◌++◌, ℕ, replicate}
+use Rattle.std.specs.Prelude.{◌≡◌, refl, List, [], ◌∷◌, ◌++◌, ℕ, replicate, Ok}
 use Rattle.rules.specs.Choice.{pick}
 use Rattle.tools.specs.Search.{all, any, first}
 use Rattle.rules.specs.Tests.{sieve}
@@ -8,12 +8,10 @@ use Rattle.fip_entries.specs.Numbers.{two, four, eight}
 use Rattle.fip_entries.specs.Entries.{offset, size, agrees, same, outside, begins, shares}
 use Rattle.fip_table.specs.Table.{blank, twins, repeated, doubled, holds, sought, strays, table_end, covers, crowded, slots, count, unended}
 use Rattle.fip_read.specs.Reading.{wrong_length, wrong_header, faults, judged, doubts, placed, located, part_of}
-use Rattle.fip_read.specs.declared.Found.TheVariants as Found
 use Rattle.fip_lay.specs.Bytes.{spell, copied}
 use Rattle.fip_plan.specs.Plan.{sizes, total, hindrances}
 use Rattle.fip_write.specs.Packed.{header, row, rows, ending, images, packed}
 use Rattle.fip_write.specs.Writing.{wrote}
-use Rattle.fip_write.specs.declared.Outcome.TheVariants as Outcome
 
 -- the image's identifier
 abbrev name : List ℕ
@@ -51,12 +49,12 @@ pack =
     ∷ []
 
 -- It is written into a space of 101 bytes, whose last two stay.
-pub written : wrote 0x01020304 2 plan pool (replicate 101 0xff) ≡ (Outcome.Written 99, pack ++ (0xff ∷ 0xff ∷ []))
+pub written : wrote 0x01020304 2 plan pool (replicate 101 0xff) ≡ (Ok 99, pack ++ (0xff ∷ 0xff ∷ []))
 unfolding wrote hindrances sieve pick any blank same all agrees doubled repeated twins strays outside offset size eight four two total table_end sizes laid packed header rows row ending images spell copied
 written = refl
 
 -- The reader finds the image where it lies.
-pub found : located pack name ≡ Found.At 96 3
+pub found : located pack name ≡ Ok (record { start = 96; size = 3 })
 unfolding located doubts placed judged faults wrong_length wrong_header unended count slots first doubled repeated twins strays outside crowded covers shares begins sought holds sieve pick any blank same all agrees offset size eight four two table_end
 found = refl
 

@@ -1,5 +1,5 @@
 -- What is so of a plan that breaks no rule of the writer, in plain facts.
-use Rattle.std.specs.Prelude.{◌≡◌, false, List, ℕ, ◌+◌, ◌≤◌, ◌<◌, ltb}
+use Rattle.std.specs.Prelude.{◌≡◌, false, List, ℕ, ◌+◌, ◌≤◌, ◌<◌, ltb, Ok}
 use Rattle.std.proofs.Common.{arith}
 use Rattle.std.proofs.lemmas.Bool.{eqb-false}
 use Rattle.rules.specs.Choice.{not_second}
@@ -21,7 +21,7 @@ pub record Fit (serial : ℕ) (d : List ℕ) (room space : ℕ) : Type 0 where
   pub short : total d (planned d) ≤ 65536
   pub roomy : total d (planned d) ≤ space
 
-pub fit : (serial : ℕ) (d : List ℕ) (room space : ℕ) → weighed serial d room space ≡ 0 → Fit serial d room space
+pub fit : (serial : ℕ) (d : List ℕ) (room space : ℕ) → weighed serial d room space ≡ Ok tt → Fit serial d room space
 unfolding Clear hindrances
 fit serial d room space e =
     let n = planned d in

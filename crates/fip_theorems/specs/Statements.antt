@@ -1,16 +1,16 @@
 -- What is guaranteed of every write: the reader gives everything back that was written, and a refused write leaves no trace.
-use Rattle.std.specs.Prelude.{◌≡◌, Bool, true, ℕ, ◌+◌, ◌*◌, ◌<◌, length, take, drop}
+use Rattle.std.specs.Prelude.{◌≡◌, Bool, true, ℕ, ◌+◌, ◌*◌, ◌<◌, length, take, drop, Result, Ok, Err}
 use mathlib.Core.List.{List, [], ◌∷◌, Memᴰ}
+use Rattle.fip_entries.specs.declared.Fault.{Fault}
+use Rattle.fip_entries.specs.declared.Fault.TheVariants.{NoImage}
+use Rattle.fip_entries.specs.Faults.{number_of}
 use Rattle.fip_entries.specs.Numbers.{four, eight}
 use Rattle.fip_entries.specs.Entries.{entry, zeros}
 use Rattle.fip_table.specs.Table.{table_end}
 use Rattle.fip_entries.specs.Entries as Entries
 use Rattle.fip_read.specs.Reading.{behind, entries, judged, tabled, located, part_of}
-use Rattle.fip_read.specs.declared.Found.TheVariants as Found
 use Rattle.fip_lay.specs.Bytes.{copied}
 use Rattle.fip_plan.specs.Plan.{sizes, total, planned}
-use Rattle.fip_write.specs.declared.Outcome.{Outcome}
-use Rattle.fip_write.specs.declared.Outcome.TheVariants as Outcome
 
 -- ---- image k of a plan d
 abbrev pub identifier : List ℕ → ℕ → List ℕ
@@ -36,7 +36,7 @@ pub record Package (serial flags : ℕ) (d pool p : List ℕ) : Type 0 where
   -- It is as long as its table and the images are together.
   pub long : length p ≡ total d (planned d)
   -- The reader accepts it.
-  pub accepted : judged p ≡ 0
+  pub accepted : judged p ≡ Ok tt
   -- Its header has the name.
   pub has_name : four p 0 ≡ 0xaa640001
   -- Its serial number is the one that was given.
@@ -54,19 +54,19 @@ pub record Package (serial flags : ℕ) (d pool p : List ℕ) : Type 0 where
   -- The end entry is zero but for its offset, the package's length.
   pub last : Entry (behind p) (planned d) zeros (length p) 0 0
   -- Each image is found by its identifier, where its entry says.
-  pub found : (k : ℕ) → k < planned d → located p (identifier d k) ≡ Found.At (place d (planned d) k) (Entries.size d k)
+  pub found : (k : ℕ) → k < planned d → located p (identifier d k) ≡ Ok (record { start = place d (planned d) k; size = Entries.size d k })
   -- What is found is the image that was given, byte for byte.
   pub given_back : (k : ℕ) → k < planned d → part_of p (located p (identifier d k)) ≡ image d pool k
-  -- An identifier that no image of the plan has is refused as not found.
-  pub absent : (id : List ℕ) → length id ≡ 16 → ((k : ℕ) → k < planned d → id ≡ identifier d k → ⊥) → located p id ≡ Found.Refused 0x86
+  -- An identifier that no image of the plan has is refused as not found, which has the number 86 hex.
+  pub absent : (id : List ℕ) → length id ≡ 16 → ((k : ℕ) → k < planned d → id ≡ identifier d k → ⊥) → located p id ≡ Err NoImage
   -- So is the one of zeros alone.
-  pub zeros_absent : located p zeros ≡ Found.Refused 0x86
+  pub zeros_absent : located p zeros ≡ Err NoImage
 
 -- ---- what is so of a write that answers thus and leaves o' of the space o
 -- where the plan breaks no rule
-pub record Done (serial flags : ℕ) (d pool o : List ℕ) (answer : Outcome) (o' : List ℕ) : Type 0 where
+pub record Done (serial flags : ℕ) (d pool o : List ℕ) (answer : Result ℕ Fault) (o' : List ℕ) : Type 0 where
   -- The answer is the package's length.
-  pub answered : answer ≡ Outcome.Written (total d (planned d))
+  pub answered : answer ≡ Ok (total d (planned d))
   -- The space is as long as before.
   pub as_long : length o' ≡ length o
   -- Its bytes past the package stay.
@@ -74,14 +74,14 @@ pub record Done (serial flags : ℕ) (d pool o : List ℕ) (answer : Outcome) (o
   -- Its bytes before that are the package.
   pub written : Package serial flags d pool (take (total d (planned d)) o')
 
--- where v is the first rule that it breaks
-pub record Denied (v : ℕ) (o : List ℕ) (answer : Outcome) (o' : List ℕ) : Type 0 where
-  -- The answer is the refusal's number.
-  pub answered : answer ≡ Outcome.Refused v
+-- where f is the first rule that it breaks
+pub record Denied (f : Fault) (o : List ℕ) (answer : Result ℕ Fault) (o' : List ℕ) : Type 0 where
+  -- The answer is that fault.
+  pub answered : answer ≡ Err f
   -- No byte changes.
   pub kept : o' ≡ o
-  -- The number is one of the writer's.
-  pub reason : Memᴰ v (0x82 ∷ 0x83 ∷ 0x84 ∷ 0x85 ∷ 0x87 ∷ [])
+  -- Its number is one of the writer's.
+  pub reason : Memᴰ (number_of f) (0x82 ∷ 0x83 ∷ 0x84 ∷ 0x85 ∷ 0x87 ∷ [])
 
 -- ---- what is so where image k is set in the plan d, which is then d', and this is the answer
 pub record Planned (d : List ℕ) (k : ℕ) (id : List ℕ) (offset size flags : ℕ) (answer : Bool) (d' : List ℕ) : Type 0 where

@@ -10,34 +10,40 @@ use Rattle.fip_lay.specs.Laying.{Laying, laying_starts, laying_goes, laying_ends
 use Rattle.fip_plan.specs.Plan.{total}
 use Rattle.fip_write.specs.Packed.{header, row, rows, ending, images, packed, length_header, length_row, length_rows, length_ending, rows_next, images_next, rows_none, images_none}
 
--- ---- the loops
-module _ (o w p : List ℕ) (at n : ℕ) (d pool : List ℕ) (k : ℕ) (i : Laying o w p at (images d pool k n)) where
+-- ---- the loops, which have laid k of n images or their entries
+module _ (o w p : List ℕ) (at n : ℕ) (d pool : List ℕ) (k : ℕ) (i : Laying o w p at (images d pool k (n - k))) where
   pub images_go :
-      (p' : List ℕ) (from z : ℕ) → from ≡ offset d k → z ≡ size d k → p' ≡ laid p at (copied pool from z) → 0 < n →
-      Laying o w p' (at + z) (images d pool (k + 1) (n - 1))
+      (p' : List ℕ) (from z : ℕ) → from ≡ offset d k → z ≡ size d k → p' ≡ laid p at (copied pool from z) → k < n →
+      Laying o w p' (at + z) (images d pool (k + 1) (n - (k + 1)))
   images_go p' from z e f g h =
-      laying_goes _ _ _ _ _ i _ (copied pool from z) _ _ (images_next d pool k n h ∙ rw (e, f)) (rw (length_copied pool from z)) g
+      let y : n - (k + 1) ≡ n - k - 1 = omega arith in
+      rw y
+      (laying_goes _ _ _ _ _ i _ (copied pool from z) _ _ (images_next d pool k (n - k) (omega arith) ∙ rw (e, f)) (rw (length_copied pool from z)) g)
 
-  pub images_end : n ≤ 0 → p ≡ w
-  images_end h = laying_ends _ _ _ _ _ i (images_none d pool k n h)
+  pub images_end : n ≤ k → p ≡ w
+  images_end h = laying_ends _ _ _ _ _ i (images_none d pool k (n - k) (omega arith))
 
-module _ (o w p d : List ℕ) (k n start : ℕ) (i : Laying o w p (16 + 40 * k) (rows d k n start)) where
+module _ (o w p d : List ℕ) (k n start : ℕ) (i : Laying o w p (16 + 40 * k) (rows d k (n - k) start)) where
   pub rows_go :
-      (p' : List ℕ) (z : ℕ) → z ≡ size d k → p' ≡ laid p (16 + 40 * k) (row d k start) → 0 < n →
-      Laying o w p' (16 + 40 * (k + 1)) (rows d (k + 1) (n - 1) (start + z))
+      (p' : List ℕ) (z : ℕ) → z ≡ size d k → p' ≡ laid p (16 + 40 * k) (row d k start) → k < n →
+      Laying o w p' (16 + 40 * (k + 1)) (rows d (k + 1) (n - (k + 1)) (start + z))
   rows_go p' z e g h =
+      let y : n - (k + 1) ≡ n - k - 1 = omega arith in
       let l = length_row d k start in
-      laying_goes _ _ _ _ _ i _ (row d k start) _ _ (rows_next d k n start h ∙ rw e) (omega arith) g
+      rw y (laying_goes _ _ _ _ _ i _ (row d k start) _ _ (rows_next d k (n - k) start (omega arith) ∙ rw e) (omega arith) g)
 
-  pub rows_end : n ≤ 0 → p ≡ w
-  rows_end h = laying_ends _ _ _ _ _ i (rows_none d k n start h)
+  pub rows_end : n ≤ k → p ≡ w
+  rows_end h = laying_ends _ _ _ _ _ i (rows_none d k (n - k) start (omega arith))
 
 module _ (o d : List ℕ) (n at : ℕ) (e : at ≡ table_end n) where
-  pub rows_start : Laying o (laid o 16 (rows d 0 n (table_end n))) o (16 + 40 * 0) (rows d 0 n at)
-  rows_start = rw e (laying_starts o 16 (rows d 0 n (table_end n)))
+  all_left : n - 0 ≡ n
+  all_left = omega arith
 
-  pub images_start : (pool : List ℕ) → Laying o (laid o (table_end n) (images d pool 0 n)) o at (images d pool 0 n)
-  images_start pool = rw e (laying_starts o (table_end n) (images d pool 0 n))
+  pub rows_start : Laying o (laid o 16 (rows d 0 n (table_end n))) o (16 + 40 * 0) (rows d 0 (n - 0) at)
+  rows_start = rw (e, all_left) (laying_starts o 16 (rows d 0 n (table_end n)))
+
+  pub images_start : (pool : List ℕ) → Laying o (laid o (table_end n) (images d pool 0 n)) o at (images d pool 0 (n - 0))
+  images_start pool = rw (e, all_left) (laying_starts o (table_end n) (images d pool 0 n))
 
 -- ---- parts one behind the other
 module _ (o o₁ o₂ p : List ℕ) where

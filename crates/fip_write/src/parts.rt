@@ -9,7 +9,7 @@ pub(crate) fn put_header(out: &mut [u8], serial: u32, flags: u64)
     ensures { out.new ≡ laid out.old 0 (header serial flags) }
 {
     fip_lay::put_number(out, 0, fip_entries::NAME, 4);
-    fip_lay::put_number(out, 4, serial as u64, 4);
+    fip_lay::put_number(out, 4, u64::from(serial), 4);
     fip_lay::put_number(out, 8, flags, 8);
 }
 
@@ -26,18 +26,14 @@ fn put_row(out: &mut [u8], at: usize, plan: &[u8], k: u32, start: usize)
 
 // The entries of all images.
 pub(crate) fn put_rows(out: &mut [u8], plan: &[u8], n: u32)
-    requires { (n ≤ 64) × (total plan.now n ≤ 65536) }
+    requires { total plan.now n ≤ 65536 }
     ensures { out.new ≡ laid out.old 16 (rows plan.now 0 n (table_end n)) }
 {
-    let mut k: u32 = 0;
-    let mut unput = n;
     let mut start = fip_table::table_end(n);
-    while 0 < unput {
+    for k in 0..n {
         let at = fip_entries::HEADER_SIZE + fip_entries::ENTRY_SIZE * k as usize;
         put_row(out, at, plan, k, start);
         start += fip_entries::size_of(plan, k) as usize;
-        k += 1;
-        unput -= 1;
     }
 }
 
@@ -51,18 +47,14 @@ pub(crate) fn put_ending(out: &mut [u8], n: u32, whole: usize)
 
 // The bytes of all images.
 pub(crate) fn put_images(out: &mut [u8], plan: &[u8], pool: &[u8], n: u32)
-    requires { (n ≤ 64) × (total plan.now n ≤ 65536) }
+    requires { total plan.now n ≤ 65536 }
     ensures { out.new ≡ laid out.old (table_end n) (images plan.now pool.now 0 n) }
 {
-    let mut k: u32 = 0;
-    let mut unput = n;
     let mut at = fip_table::table_end(n);
-    while 0 < unput {
+    for k in 0..n {
         let size = fip_entries::size_of(plan, k) as usize;
         let from = fip_entries::offset_of(plan, k) as usize;
         fip_lay::put_bytes(out, at, pool, from, size);
         at += size;
-        k += 1;
-        unput -= 1;
     }
 }

@@ -1,11 +1,12 @@
 -- A function for C does what its frame does: the machine is the one after the frame, and the number is that of the frame's answer. So what
 -- holds of any run of frames holds of any run of these calls, from fresh tables on.
-use Rattle.std.specs.Prelude.{◌≡◌, refl, take}
+use Rattle.std.specs.Prelude.{◌≡◌, refl, take, Err, Ok, Result}
 use Rattle.std.proofs.Math.Path.{ap}
 use Rattle.std.proofs.Common.{◌∙◌}
 use mathlib.Core.List.{List, [], ◌∷◌}
 use Prim.Native.Nat.{ℕ}
 use Rattle.std.proofs.Math.ListN.{drop}
+use Rattle.parsing.specs.declared.Status.{Status}
 use Rattle.rules.specs.Choice.{chosen}
 use Rattle.cores.specs.Power.{is_on}
 use Rattle.cores.specs.Cores.{power}
@@ -19,8 +20,6 @@ use Rattle.showing.specs.Showing.{shown_on}
 use Rattle.showing.specs.declared.Reply.{Reply}
 use Rattle.showing.specs.declared.Reply.TheVariants as Reply
 use Rattle.calling.specs.Calling.{site_of, trying, shown_in, replied, calling}
-use Rattle.calling.specs.declared.Tried.{Tried}
-use Rattle.calling.specs.declared.Tried.TheVariants as Tried
 use Rattle.arriving.specs.Arriving.{arriving}
 use Rattle.frames.specs.Frames.{Machine, machine, framed}
 use Rattle.firmware.specs.Numbers.{in_byte, refusal, telling, answering, call_told}
@@ -60,12 +59,12 @@ abbrev pub Shows : Reply → List ℕ → List ℕ → Type 0
 Shows (Reply.Told why) told told' = told' ≡ told
 Shows (Reply.Called core world x) told told' = take 5 told' ≡ (world ∷ x.x0 ∷ x.x1 ∷ x.x2 ∷ x.x3 ∷ [])
 
-by_tried : (told : List ℕ) (core : ℕ) (z : (List ℕ × State) × Tried)
+by_tried : (told : List ℕ) (core : ℕ) (z : (List ℕ × State) × Result Made Status)
     → (◌≡◌ {A = (List ℕ × State) × ℕ} ((answering told core z).0.0, (answering told core z).1) (z.0, number (replied core z.0.1 z.1)))
     × Shows (replied core z.0.1 z.1) told (answering told core z).0.1
 unfolding shown_on
-by_tried told core (o, Tried.Refused why) = (refl, refl)
-by_tried told core (o, Tried.Called made) =
+by_tried told core (o, Err why) = (refl, refl)
+by_tried told core (o, Ok made) =
     chosen (λ (r : Reply). (◌≡◌ {A = (List ℕ × State) × ℕ} (o, 0) (o, number r)) × Shows r told (telling told made r)) (is_on (power o.1.powers core)) _ _ (λ e. (refl, refl))
     (λ e. (refl, refl))
 
@@ -91,10 +90,10 @@ module _ (s m l o v p t k xs told : List ℕ) (core n : ℕ) (s' l' o' v' p' t' 
       rw (ap (λ (y : ((List ℕ × State) × List ℕ) × ℕ). y.0.1) h) z
 
   -- the other two are who called and the refusal of what was answered
-  pub call_tells : (after : List ℕ × State) (made : Made) → trying s (state (site_of s) l o v p t k) core xs ≡ (after, Tried.Called made)
+  pub call_tells : (after : List ℕ × State) (made : Made) → trying s (state (site_of s) l o v p t k) core xs ≡ (after, Ok made)
       → drop 5 told' ≡ (made.caller ∷ refusal made.answer ∷ [])
   unfolding call_told
   call_tells after made e =
       let a = ap (λ (y : ((List ℕ × State) × List ℕ) × ℕ). drop 5 y.0.1) h in
-      let b = ap (λ (y : (List ℕ × State) × Tried). drop 5 (answering told core y).0.1) e in
+      let b = ap (λ (y : (List ℕ × State) × Result Made Status). drop 5 (answering told core y).0.1) e in
       a ∙ b ∙ last_two told core after.1 made

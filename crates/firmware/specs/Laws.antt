@@ -1,6 +1,8 @@
 -- How the code's branches meet the definitions of Numbers: one law for each outcome.
-use Rattle.std.specs.Prelude.{◌≡◌, refl, Bool, true, false, List, [], ◌∷◌, ℕ, length, set}
+use Rattle.std.specs.Prelude.{◌≡◌, refl, Bool, true, false, List, [], ◌∷◌, ℕ, length, set, Err, None, Ok, Option, Result}
 use Rattle.std.proofs.Common.{◌∙◌, arith}
+use Rattle.mapping.specs.Leads.{To}
+use Rattle.mapping.specs.declared.Lead.{Lead}
 use Rattle.rules.specs.Sizes.{normal}
 use Rattle.rules.specs.Reasons.{minus}
 use Rattle.rules.specs.declared.Reason.{Reason}
@@ -14,8 +16,6 @@ use Rattle.cores.specs.declared.Turn.{Turn}
 use Rattle.pages.specs.Owners.{unowned}
 use Rattle.pages.specs.Named.{unnamed}
 use Rattle.mapping.specs.Lists.{unmapped}
-use Rattle.mapping.specs.declared.Lead.{Lead}
-use Rattle.mapping.specs.declared.Lead.TheVariants as Lead
 use Rattle.judgements.specs.declared.Answer.{Answer}
 use Rattle.judgements.specs.declared.Answer.TheVariants.{Version, PowerVersion, Done, On, Off, Pending, Owns, Leads, Count, Silent, No}
 use Rattle.calls.specs.Step.{State}
@@ -24,8 +24,6 @@ use Rattle.parsing.specs.Frame.{status_byte}
 use Rattle.parsing.specs.declared.Status.{Status}
 use Rattle.showing.specs.Showing.{shown_on, shows_on, shows_off}
 use Rattle.calling.specs.Calling.{trying, shown_in}
-use Rattle.calling.specs.declared.Tried.{Tried}
-use Rattle.calling.specs.declared.Tried.TheVariants as Tried
 use Rattle.setup.specs.Table.{unset}
 use Rattle.frames.specs.Frames.{machine, first}
 use Rattle.firmware.specs.Numbers.{in_byte, refusal, listed, telling, call_told, led_to}
@@ -84,23 +82,23 @@ module _ (told t' : List ℕ) (made : Made) (core : ℕ) (v p t : List ℕ) (w :
 pub ruleset tellings = (tells_on, tells_off)
 
 -- ---- a call
-module _ (s : List ℕ) (w : State) (told : List ℕ) (core : ℕ) (xs s' : List ℕ) (w' : State) (t : Tried) (is : ((s', w'), t) ≡ trying s w core xs) where
-  pub call_refused : (why : Status) (n : ℕ) → t ≡ Tried.Refused why → n ≡ status_byte why → (((s', w'), told), n) ≡ call_told s w told core xs
+module _ (s : List ℕ) (w : State) (told : List ℕ) (core : ℕ) (xs s' : List ℕ) (w' : State) (t : Result Made Status) (is : ((s', w'), t) ≡ trying s w core xs) where
+  pub call_refused : (why : Status) (n : ℕ) → t ≡ Err why → n ≡ status_byte why → (((s', w'), told), n) ≡ call_told s w told core xs
   unfolding call_told
   call_refused why n e f = rw (← is, e, f)
 
-  pub call_made : (made : Made) (told' : List ℕ) → t ≡ Tried.Called made → told' ≡ telling told made (shown_in core w') → (((s', w'), told'), 0) ≡ call_told s w told core xs
+  pub call_made : (made : Made) (told' : List ℕ) → t ≡ Ok made → told' ≡ telling told made (shown_in core w') → (((s', w'), told'), 0) ≡ call_told s w told core xs
   unfolding call_told
   call_made made told' e f = rw (← is, e, f)
 
 pub ruleset callings = (call_refused, call_made)
 
 -- ---- where an address leads
-module _ (l : List ℕ) (a b : Lead) (is : a ≡ b) where
-  pub leads_to : (phys attr : ℕ) → a ≡ Lead.To phys attr → (phys ∷ attr ∷ [], 0) ≡ led_to l b
+module _ (l : List ℕ) (a b : Option Lead) (is : a ≡ b) where
+  pub leads_to : (phys attr : ℕ) → a ≡ To phys attr → (phys ∷ attr ∷ [], 0) ≡ led_to l b
   leads_to phys attr e = rw (← is, e)
 
-  pub leads_nowhere : (n : ℕ) → a ≡ Lead.Nowhere → n ≡ minus Reason.Nowhere → (l, n) ≡ led_to l b
+  pub leads_nowhere : (n : ℕ) → a ≡ None → n ≡ minus Reason.Nowhere → (l, n) ≡ led_to l b
   leads_nowhere n e f = rw (← is, e, f)
 
 pub ruleset leadings = (leads_to, leads_nowhere)

@@ -1,10 +1,10 @@
 -- What the functions for C answer: the paper's number for each case, and what is told of a call.
-use Rattle.std.specs.Prelude.{List, [], ◌∷◌, ℕ}
+use Rattle.std.specs.Prelude.{List, [], ◌∷◌, ℕ, Err, None, Ok, Option, Result, Some}
+use Rattle.mapping.specs.Leads.{To}
+use Rattle.mapping.specs.declared.Lead.{Lead}
 use Rattle.rules.specs.Reasons.{minus}
 use Rattle.rules.specs.declared.Reason.TheVariants as Reason
 use Rattle.registers.specs.declared.Shown.{Shown}
-use Rattle.mapping.specs.declared.Lead.{Lead}
-use Rattle.mapping.specs.declared.Lead.TheVariants as Lead
 use Rattle.judgements.specs.declared.Answer.{Answer}
 use Rattle.judgements.specs.declared.Answer.TheVariants.{Version, PowerVersion, Done, On, Off, Pending, Owns, Leads, Count, Silent, No}
 use Rattle.calls.specs.Step.{State}
@@ -14,8 +14,6 @@ use Rattle.parsing.specs.declared.Status.{Status}
 use Rattle.showing.specs.declared.Reply.{Reply}
 use Rattle.showing.specs.declared.Reply.TheVariants as Reply
 use Rattle.calling.specs.Calling.{trying, shown_in}
-use Rattle.calling.specs.declared.Tried.{Tried}
-use Rattle.calling.specs.declared.Tried.TheVariants as Tried
 
 -- ---- set-up and arrivals: what is left, and the paper's byte of the status
 abbrev pub in_byte : {A : Type 0} → A × Status → A × ℕ
@@ -50,15 +48,15 @@ telling told made (Reply.Told why) = told
 telling told made (Reply.Called core world x) = told_of made world x
 
 -- what becomes of the frame of a call: of a refused one nothing is told
-abbrev pub answering : List ℕ → ℕ → (List ℕ × State) × Tried → ((List ℕ × State) × List ℕ) × ℕ
-answering told core (o, Tried.Refused why) = ((o, told), status_byte why)
-answering told core (o, Tried.Called made) = ((o, telling told made (shown_in core o.1)), 0)
+abbrev pub answering : List ℕ → ℕ → (List ℕ × State) × Result Made Status → ((List ℕ × State) × List ℕ) × ℕ
+answering told core (o, Err why) = ((o, told), status_byte why)
+answering told core (o, Ok made) = ((o, telling told made (shown_in core o.1)), 0)
 
 -- set-up, the state, what is told, and the status
 unfoldable pub call_told : List ℕ → State → List ℕ → ℕ → List ℕ → ((List ℕ × State) × List ℕ) × ℕ
 call_told s w told core xs = answering told core (trying s w core xs)
 
 -- ---- where an address leads: physical address and attributes, and 0; else what was there, and the number of the refusal
-abbrev pub led_to : List ℕ → Lead → List ℕ × ℕ
-led_to l (Lead.To phys attr) = (phys ∷ attr ∷ [], 0)
-led_to l Lead.Nowhere = (l, minus Reason.Nowhere)
+abbrev pub led_to : List ℕ → Option Lead → List ℕ × ℕ
+led_to l (Some d) = (d.phys ∷ d.attr ∷ [], 0)
+led_to l None = (l, minus Reason.Nowhere)

@@ -15,7 +15,6 @@ ghost use Rattle.frames.specs.Frames.{machine, first};
 ghost use Rattle.showing.specs.Showing.{shown_on};
 ghost use Rattle.firmware.specs.Numbers.{in_byte, refusal, listed, telling, call_told, led_to};
 
-use calling::Tried;
 use calls::Made;
 use cores::{Powers, Turns};
 use judgements::Answer;
@@ -202,8 +201,8 @@ pub extern "C" fn chiarumbeta_lent_call(
 {
     let tried = calling::try_call(setup, core, x, book, owners, saved, powers, turns, lists);
     match tried {
-        Tried::Refused(why) => parsing::byte_of(why),
-        Tried::Called(made) => {
+        Err(why) => parsing::byte_of(why),
+        Ok(made) => {
             tell(told, made, core, saved, powers, turns);
             0
         }
@@ -237,11 +236,11 @@ pub extern "C" fn chiarumbeta_lent_where(
 {
     let lead = mapping::lead_of(lists, world, address);
     match lead {
-        Lead::To { phys, attr } => {
+        Some(Lead { phys, attr }) => {
             *leading = [phys, attr];
             0
         }
-        Lead::Nowhere => rules::minus_of(Reason::Nowhere),
+        None => rules::minus_of(Reason::Nowhere),
     }
 }
 

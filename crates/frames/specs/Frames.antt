@@ -10,24 +10,17 @@ use Rattle.mapping.specs.Lists.{unmapped}
 use Rattle.calls.specs.Step.{State, state, CoreTables, core_tables}
 use Rattle.parsing.specs.declared.Status.{Status}
 use Rattle.parsing.specs.declared.Frame.{Frame}
-use Rattle.parsing.specs.declared.Frame.TheVariants as Frame
 use Rattle.setup.specs.Table.{unset}
 use Rattle.setup.specs.Frames.{sited, entering, naming_in}
 use Rattle.calling.specs.Calling.{site_of, calling}
 use Rattle.showing.specs.declared.Reply.{Reply}
 use Rattle.showing.specs.declared.Reply.TheVariants.{Told}
 use Rattle.arriving.specs.Arriving.{arriving}
+use Rattle.frames.specs.declared.Machine.{Machine as Tables}
 
 -- everything there is: set-up, which pages were named, and what the calls work on
-pub record Machine : Type 0 where
-  pub setup : List ℕ
-  pub named : List ℕ
-  pub ledger : List ℕ
-  pub owners : List ℕ
-  pub saved : List ℕ
-  pub powers : List ℕ
-  pub turns : List ℕ
-  pub lists : List ℕ
+abbrev pub Machine : Type 0
+Machine = Tables
 
 abbrev pub machine : List ℕ → List ℕ → List ℕ → List ℕ → List ℕ → List ℕ → List ℕ → List ℕ → Machine
 machine s n l o r p t m = record { setup = s; named = n; ledger = l; owners = o; saved = r; powers = p; turns = t; lists = m }

@@ -4,7 +4,6 @@ use Rattle.calls.specs.Step.{state, core_tables}
 use Rattle.calls.specs.declared.Site.{Site}
 use Rattle.parsing.specs.declared.Status.{Status}
 use Rattle.parsing.specs.declared.Frame.{Frame}
-use Rattle.parsing.specs.declared.Frame.TheVariants as Frame
 use Rattle.setup.specs.Frames.{sited, entering, naming_in}
 use Rattle.calling.specs.Calling.{site_of, calling}
 use Rattle.showing.specs.declared.Reply.{Reply}

@@ -1,15 +1,15 @@
 -- What a frame leaves: all where it is refused, the site once it is fixed, the ledger and the names once set-up has ended.
 use Rattle.std.proofs.Math.Path.{◌≡◌, refl}
 use Rattle.std.proofs.Common.{◌∙◌, leb-false}
-use Rattle.std.specs.Prelude.{true, false}
+use Rattle.std.specs.Prelude.{true, false, Ok, Result}
 use mathlib.Core.List.{List}
 use Prim.Native.Nat.{ℕ, ◌<◌}
 use native.Mathlib.Omega.{arith}
 use Rattle.std.proofs.lemmas.Bool.{not-false}
+use Rattle.calls.specs.declared.Made.{Made}
 use Rattle.rules.specs.Sizes.{root}
 use Rattle.rules.specs.Choice.{chosen, yes_or_no}
 use Rattle.ledger.specs.Ledger.{entered}
-use Rattle.rules.specs.declared.Entered.TheVariants as Entered
 use Rattle.registers.specs.declared.Shown.{Shown}
 use Rattle.cores.specs.Power.{is_on, is_pending}
 use Rattle.cores.specs.Cores.{power}
@@ -19,7 +19,6 @@ use Rattle.calls.specs.Step.{State, called, applied, CoreTables, arrived_in, arr
 use Rattle.parsing.specs.declared.Status.{Status}
 use Rattle.parsing.specs.declared.Status.TheVariants.{Accepted}
 use Rattle.parsing.specs.declared.Frame.{Frame}
-use Rattle.parsing.specs.declared.Frame.TheVariants as Frame
 use Rattle.setup.specs.Table.{ready, ended, window, cores, fixed, over, fixed_ended, over_ready, over_ended, over_window, over_cores}
 use Rattle.setup.specs.Statuses.{ruled_by}
 use Rattle.setup.specs.Frames.{fits}
@@ -28,7 +27,6 @@ use Rattle.calling.specs.Calling.{site_of, trying, replied, performed, calling}
 use Rattle.showing.specs.Showing.{shown_on}
 use Rattle.showing.specs.declared.Reply.{Reply}
 use Rattle.showing.specs.declared.Reply.TheVariants.{Told, Called}
-use Rattle.calling.specs.declared.Tried.{Tried}
 use Rattle.arriving.specs.Arriving.{arriving}
 use Rattle.frames.specs.Frames.{Machine, state_of, core_tables_of, with_site, with_ledger, with_pages, with_state, with_core_tables, framed}
 
@@ -38,9 +36,9 @@ module _ (m : Machine) (xs : List ℕ) (P : Frame → Machine × Reply → Type 
     (refused : (f : Frame) (why : Status) → (why ≡ Accepted → ⊥) → P f (m, Told why))
     (site : (base pages count : ℕ) → ready m.setup ≡ false → fits (record { base = base; pages = pages }) count ≡ true
     → P (Frame.Site base pages count) (with_site m ((fixed m.setup base pages count, given m.owners 0 pages root), Accepted)))
-    (entry : (first last kind number : ℕ) → ready m.setup ≡ true → ended m.setup ≡ false → (entered m.ledger first last kind number).0 ≡ Entered.Accepted
+    (entry : (first last kind number : ℕ) → ready m.setup ≡ true → ended m.setup ≡ false → (entered m.ledger first last kind number).0 ≡ (Ok tt)
     → P (Frame.Entry first last kind number) (with_ledger m ((entered m.ledger first last kind number).1, Accepted)))
-    (name : (first count to : ℕ) → ready m.setup ≡ true → ended m.setup ≡ false → (naming m.owners m.named (window m.setup).pages first count to).0 ≡ Entered.Accepted
+    (name : (first count to : ℕ) → ready m.setup ≡ true → ended m.setup ≡ false → (naming m.owners m.named (window m.setup).pages first count to).0 ≡ (Ok tt)
     → P (Frame.Name first count to) (with_pages m ((naming m.owners m.named (window m.setup).pages first count to).1, Accepted)))
     (call : (core : ℕ) → ready m.setup ≡ true → core < cores m.setup → is_on (power m.powers core) ≡ true
     → P (Frame.Call core) (with_state m (performed m.setup (state_of m) core xs)))
@@ -58,7 +56,7 @@ module _ (m : Machine) (xs : List ℕ) (P : Frame → Machine × Reply → Type 
       naming_in_by m.setup m.owners m.named first count to (λ (o : (List ℕ × List ℕ) × Status). P (Frame.Name first count to) (with_pages m o))
       (refused (Frame.Name first count to)) (name first count to)
   framed_by (Frame.Call core) =
-      ruled_by (λ (o : (List ℕ × State) × Tried). P (Frame.Call core) (with_state m (o.0, replied core o.0.1 o.1))) _ _ _ _ _
+      ruled_by (λ (o : (List ℕ × State) × Result Made Status). P (Frame.Call core) (with_state m (o.0, replied core o.0.1 o.1))) _ _ _ _ _
       (refused (Frame.Call core)) (λ a b c. call core (not-false _ a) (leb-false _ _ b) (not-false _ c))
   framed_by (Frame.Arrival core) =
       ruled_by (λ (o : CoreTables × Status). P (Frame.Arrival core) (with_core_tables m o)) _ _ _ _ _

@@ -22,6 +22,7 @@ const NUMBERS: u64 = MOST_PAGES / SIXTEEN;
 pub type Granules = [u64; NUMBERS as usize];
 
 // No page has a mark.
+#[tactic(auto, using(crate::specs::Table::unmarked_is))]
 pub fn fresh() -> Granules
     ensures { result ≡ unmarked }
 {
@@ -29,6 +30,7 @@ pub fn fresh() -> Granules
 }
 
 // The mark of a page; 0 past the last.
+#[tactic(auto, using(crate::specs::Table::places))]
 pub fn mark_of(t: &Granules, page: u64) -> u64
     ensures { result ≡ mark t.now page }
 {
@@ -47,19 +49,18 @@ fn see_whole(t: &Granules) -> u64
 }
 
 // How many pages are taken at once, with so many left: the sixteen of a number, or one.
+#[tactic(auto, using(crate::specs::Strides::strides))]
 fn stride_of(page: u64, left: u64) -> u64
     ensures { result ≡ stride page left }
 {
-    if page % SIXTEEN != 0 {
-        return 1;
-    }
-    if left < SIXTEEN {
+    if page % SIXTEEN != 0 || left < SIXTEEN {
         return 1;
     }
     SIXTEEN
 }
 
 // Whether each page of the next stride has the mark.
+#[tactic(auto, using(crate::specs::Strides::parts))]
 fn stride_bears(t: &Granules, page: u64, left: u64, m: u64) -> bool
     ensures { result ≡ all (bears t.now m) page (stride page left) }
 {
@@ -74,7 +75,8 @@ fn stride_bears(t: &Granules, page: u64, left: u64, m: u64) -> bool
     marks::read(number, page) == m % SIXTEEN
 }
 
-// Whether each page of the run is one of the table and has the mark. A single page, as most calls have it, needs no loop.
+// Whether each page of the run is one of the table and has the mark. A single page, as most calls have it, needs no loop. The loop is
+// no `for`, here and below: its steps are of one page or of sixteen, so that there is no range that it goes over.
 pub fn all_bear(t: &Granules, first: u64, count: u64, m: u64) -> bool
     ensures { result ≡ all_bear t.now first count m }
 {
@@ -85,17 +87,17 @@ pub fn all_bear(t: &Granules, first: u64, count: u64, m: u64) -> bool
     let mut unseen = count;
     while 0 < unseen {
         let n = stride_of(page, unseen);
-        if stride_bears(t, page, unseen, m) {
-            page += n;
-            unseen -= n;
-        } else {
+        if !stride_bears(t, page, unseen, m) {
             return false;
         }
+        page += n;
+        unseen -= n;
     }
     true
 }
 
 // Gives each page of the next stride the mark.
+#[tactic(auto, using(crate::specs::Strides::parts))]
 fn mark_stride(t: &mut Granules, page: u64, left: u64, m: u64)
     requires { page < most_pages }
     ensures { t.new ≡ written t.old page (stride page left) m }

@@ -1,10 +1,11 @@
 -- The machine after any run: why each statement about it holds.
 use Rattle.std.proofs.Math.Path.{◌≡◌}
-use Rattle.std.specs.Prelude.{refl, false, [], ◌∷◌, ℕ, ◌≤◌, ◌<◌, eqb, ltb, get_or}
+use Rattle.std.specs.Prelude.{refl, false, [], ◌∷◌, ℕ, ◌≤◌, ◌<◌, eqb, ltb, get_or, None}
 use Rattle.std.proofs.Common.{inl}
 use Rattle.std.proofs.Math.Bool.{true}
 use native.Mathlib.Omega.{arith}
 use borrow.Author.Tests.{eqb-true, eqb-false, ltb-true, ltb-false}
+use Rattle.mapping.specs.Leads.{To}
 use Rattle.rules.specs.Sizes.{most_cores}
 use Rattle.rules.specs.Choice.{either, yes_or_no}
 use Rattle.cores.specs.Power.{is_on, is_pending}
@@ -17,7 +18,6 @@ use Rattle.mapping.specs.Entries.{Among}
 use Rattle.mapping.specs.Sound.{Sound, sound_none}
 use Rattle.mapping.specs.Once.{Reaches, LedBy}
 use Rattle.mapping.proofs.Once.{led, leads}
-use Rattle.mapping.specs.declared.Lead.TheVariants.{To, Nowhere}
 use Rattle.judgements.specs.Grounds.{Calls}
 use Rattle.calls.specs.Right.{Right}
 use Rattle.setup.specs.Table.{ready, cores}
@@ -47,7 +47,7 @@ module _ (m : Machine) (fit : Fit m) where
   -- nothing leads anywhere in the first machine
   nowhere : m ≡ first → (world x p a : ℕ) → lead_of (mapped m world) x ≡ To p a → ⊥
   unfolding lead_of leading deciding smallest_of
-  nowhere e world x p a d = let z : Nowhere ≡ To p a = (rw (e, held_unmapped world) at d) in let y : ◌≡◌ {A = ℕ} 0 1 = cc in omega arith
+  nowhere e world x p a d = let z : None ≡ To p a = (rw (e, held_unmapped world) at d) in let y : ◌≡◌ {A = ℕ} 0 1 = cc in omega arith
 
   pub fit_led : (world x p a : ℕ) → lead_of (mapped m world) x ≡ To p a → LedBy (mapped m world) x p a
   fit_led world x p a d =

@@ -1,5 +1,5 @@
 -- The owner of a page after a run is the one whom the run names, and nobody else is named.
-use Rattle.std.specs.Prelude.{◌≡◌, true, false, ℕ, ◌+◌, ◌≤◌, ◌<◌}
+use Rattle.std.specs.Prelude.{◌≡◌, true, false, ℕ, ◌+◌, ◌≤◌, ◌<◌, Ok}
 use Rattle.std.proofs.Math.Path.{refl, sym, ap}
 use Rattle.std.proofs.Common.{◌∙◌, arith}
 use mathlib.Core.List.{List, [], ◌∷◌, ◌++◌}
@@ -8,7 +8,6 @@ use Rattle.rules.specs.Choice.{yes_or_no}
 use Rattle.pages.specs.Owners.{owner, given, unowned_owner, unowned_given}
 use Rattle.pages.specs.Named.{is_named}
 use Rattle.pages.specs.Naming.{naming, naming_granted, granted_inside, granted_outside}
-use Rattle.rules.specs.declared.Entered.TheVariants as Entered
 use Rattle.judgements.specs.declared.Deed.TheVariants.{Move}
 use Rattle.calls.specs.Effects.{deed_in, after, Carries, owners_spared, moved_inside, moved_outside}
 use Rattle.parsing.specs.declared.Status.{Status}
@@ -29,7 +28,7 @@ use Rattle.guarantees.specs.Owners.{Gives, Outcome, gave, gives_one, inside_or_n
 
 module _ (m : Machine) (fit : Fit m) (e : Event) (page : ℕ) where
   -- an accepted naming
-  naming_outcome : (lowest count to : ℕ) → ready m.setup ≡ true → (naming m.owners m.named (window m.setup).pages lowest count to).0 ≡ Entered.Accepted
+  naming_outcome : (lowest count to : ℕ) → ready m.setup ≡ true → (naming m.owners m.named (window m.setup).pages lowest count to).0 ≡ (Ok tt)
       → e.0 ≡ Frame.Name lowest count to → reply m e ≡ Told Accepted → (o : Machine) → o.owners ≡ (naming m.owners m.named (window m.setup).pages lowest count to).1.0
       → Outcome m e page o
   naming_outcome lowest count to a c is told o w =

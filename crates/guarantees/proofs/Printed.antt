@@ -7,7 +7,6 @@ use Rattle.registers.specs.Registers.{saved, saved_no_number}
 use Rattle.cores.specs.Power.{is_on}
 use Rattle.cores.specs.Cores.{power, on_count_le, on_count}
 use Rattle.mapping.specs.Mapping.{lead_of}
-use Rattle.mapping.specs.declared.Lead.TheVariants as Lead
 use Rattle.rules.specs.Sizes.{secure, normal, realm}
 use Rattle.judgements.specs.Grounds.{Takes}
 use Rattle.judgements.specs.Judge.{called_by, args_of}

@@ -1,7 +1,7 @@
 -- One line: why it leaves what it leaves.
 use Rattle.std.proofs.Math.Path.{◌≡◌, refl, sym, ap}
 use Rattle.std.proofs.Common.{◌∙◌}
-use Rattle.std.specs.Prelude.{Bool, true, false, List, [], ◌∷◌, ℕ, ◌%◌, ◌^◌, ◌<◌, leb, eqb, length}
+use Rattle.std.specs.Prelude.{Bool, true, false, List, [], ◌∷◌, ℕ, ◌%◌, ◌^◌, ◌<◌, leb, eqb, length, None}
 use native.Mathlib.Omega.{arith}
 use Rattle.std.proofs.Math.ListN.{get_or, drop}
 use borrow.Author.Tests.{leb-true, leb-false, eqb-true, eq-eqb, ne_eqb}
@@ -11,7 +11,6 @@ use Rattle.rules.specs.declared.Reason.{Reason}
 use Rattle.rules.specs.declared.Reason.TheVariants as Reason
 use Rattle.identifiers.specs.Identifier.{bits, identifier_of, parts, admitted, argument}
 use Rattle.ledger.specs.Ledger.{handler}
-use Rattle.ledger.specs.declared.Lookup.TheVariants.{Nobody}
 use Rattle.registers.specs.Registers.{Whole, saved, shown_of}
 use Rattle.cores.specs.Power.{on, is_pending}
 use Rattle.cores.specs.Cores.{power}
@@ -156,7 +155,7 @@ module _ (m : Machine) (fit : Fit m) (e : Event) (core : ℕ) (is : e.0 ≡ Fram
       (Effects.refused s core xs r a)
 
   -- a call that no handler judges, whether or not it passes the test on bits 23 to 17
-  nobody_answers : handler m.ledger (called_by xs).fast (called_by xs).owner ≡ Nobody → answer_in s core xs ≡ No Reason.Unserved
+  nobody_answers : handler m.ledger (called_by xs).fast (called_by xs).owner ≡ None → answer_in s core xs ≡ No Reason.Unserved
   unfolding found
   nobody_answers n =
       either (admitted (called_by xs))

@@ -1,12 +1,11 @@
 -- A call that is accepted as a frame: what it met, and that the machine after it is the call's.
-use Rattle.std.specs.Prelude.{◌≡◌, refl, true, List, ℕ, ◌<◌}
+use Rattle.std.specs.Prelude.{◌≡◌, refl, true, List, ℕ, ◌<◌, Some}
 use Rattle.std.proofs.Common.{sym, ◌∙◌, arith}
 use Rattle.std.proofs.Math.Path.{ap}
 use Rattle.registers.specs.Registers.{saved}
 use Rattle.cores.specs.Power.{is_on}
 use Rattle.cores.specs.Cores.{power}
 use Rattle.pages.specs.Window.{run_of}
-use Rattle.pages.specs.declared.Place.TheVariants.{Page}
 use Rattle.rules.specs.Sizes.{most_cores}
 use Rattle.judgements.specs.Judge.{Sight, one_of, callers}
 use Rattle.judgements.specs.Asked.{Reached}
@@ -116,7 +115,7 @@ module _ (m : Machine) (fit : Fit m) (e : Event) (core : ℕ) (is : e.0 ≡ Fram
     pub start : ℕ
     pub asks : AsksTransfer m core e.1 start count to
     pub told : ToldZero m core e
-    pub lies : run_of (state_of m).site.window start count ≡ Page first
+    pub lies : run_of (state_of m).site.window start count ≡ Some first
 
   pub moves_granted : (first count to : ℕ) → deed_in (state_of m) core e.1 ≡ Move first count to → Granted first count to
   moves_granted first count to d =

@@ -1,5 +1,5 @@
 -- The paper's cases P1 to P12 in one table, and one statement: every row of it holds.
-use Rattle.std.specs.Prelude.{◌≡◌, refl, true, false, List, [], ◌∷◌, ◌⊎◌, ℕ, zero, suc, ◌+◌, ◌*◌, ◌/◌, ◌%◌, ◌<◌, eqb, leb, get_or}
+use Rattle.std.specs.Prelude.{◌≡◌, refl, true, false, List, [], ◌∷◌, ◌⊎◌, ℕ, zero, suc, ◌+◌, ◌*◌, ◌/◌, ◌%◌, ◌<◌, eqb, leb, get_or, None, Some}
 use Rattle.std.proofs.Common.{ap, ◌∙◌, inl, inr, arith}
 use borrow.Author.Tests.{eq-eqb, ne_eqb, eqb-true, lt-ltb, lt-leb}
 use Rattle.rules.specs.Choice.{pick, either, first_or, second_or, neither, right_false}
@@ -9,14 +9,12 @@ use Rattle.rules.specs.declared.Reason.TheVariants as Reason
 use Rattle.identifiers.specs.Identifier.{low32, identifier_of, parts, key_of, admitted, argument}
 use Rattle.identifiers.specs.declared.Parts.{Parts}
 use Rattle.ledger.specs.Ledger.{handler}
-use Rattle.ledger.specs.declared.Lookup.TheVariants.{Handler}
 use Rattle.registers.specs.Registers.{saving}
 use Rattle.cores.specs.Power.{is_on}
 use Rattle.cores.specs.Cores.{power}
 use Rattle.pages.specs.Window.{acceptable, accepted, page_at, InPage, run_of, run_no}
 use Rattle.pages.specs.Owners.{owner}
 use Rattle.pages.specs.declared.Window.{Window}
-use Rattle.pages.specs.declared.Place.TheVariants.{Outside}
 use Rattle.mapping.specs.Mapping.{unaligned, malformed, map_verdict, has_exactly, any_of, exact}
 use Rattle.mapping.specs.Lists.{held, held_some}
 use Rattle.ranges.specs.declared.Mapping.{Mapping}
@@ -56,7 +54,7 @@ window c = c.before.site.window
 
 -- the ledger sends the call's type and owner to this handler
 abbrev pub Reaches : Call → ℕ → Type 0
-Reaches c h = handler c.before.ledger (called_by c.numbers).fast (called_by c.numbers).owner ≡ Handler h
+Reaches c h = handler c.before.ledger (called_by c.numbers).fast (called_by c.numbers).owner ≡ Some h
 
 -- the number is one of these
 abbrev pub Among : ℕ → List ℕ → Type 0
@@ -211,7 +209,7 @@ unfolding judged judged_by identifier_of parts admitted sieve pick
 p4 c e = answered c (Answer.No Reason.Unserved) refl (rw e (either (one_of (world c) callers) (λ y. rw y) (λ n. rw n)))
 
 -- a page that is none of the window
-pub no_page : (c : Call) → Among (identifier c) one_page → Reaches c 2 → world c ≡ realm → run_of (window c) (x c 1) 1 ≡ Outside → Answered c (number_of c (minus 2))
+pub no_page : (c : Call) → Among (identifier c) one_page → Reaches c 2 → world c ≡ realm → run_of (window c) (x c 1) 1 ≡ None → Answered c (number_of c (minus 2))
 unfolding key_of args_of row_in by_row by_number transferring one_of moving transfer_verdict move_tests pick sieve admitted parts
 no_page c (inl e) to r o = settled c e to (from_realm r) (Answer.No Reason.Invalid) refl refl (rw (r, o))
 no_page c (inr (inl e)) to r o = settled c e to (from_realm r) (Answer.No Reason.Invalid) refl refl (rw (r, o))

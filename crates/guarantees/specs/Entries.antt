@@ -1,5 +1,5 @@
 -- Which ledger entries a run has accepted, and that a call reaches the handler of the one that covers it, or nobody.
-use Rattle.std.specs.Prelude.{◌≡◌, refl, Bool, true, false, List, [], ◌∷◌, ◌++◌, ℕ}
+use Rattle.std.specs.Prelude.{◌≡◌, refl, Bool, true, false, List, [], ◌∷◌, ◌++◌, ℕ, Ok}
 use Rattle.std.proofs.Common.{sym, ap, ◌∙◌, ⊎_elim}
 use Rattle.rules.specs.Choice.{pick, pick_yes, pick_no}
 use Rattle.identifiers.specs.Identifier.{admitted}
@@ -8,7 +8,6 @@ use Rattle.ledger.specs.Only.{only}
 use Rattle.ledger.specs.OneHandler.{Attempt, One, answer, accepted, covers}
 use Rattle.ledger.proofs.OneHandler.{one_handler}
 use Rattle.ledger.specs.OneHandler as OneHandler
-use Rattle.rules.specs.declared.Entered.TheVariants as Entered
 use Rattle.rules.specs.Sizes.{secure, normal, realm}
 use Rattle.judgements.specs.Judge.{called_by, args_of, found, one_of, callers}
 use Rattle.judgements.specs.Grounds.{Calls, Takes}
@@ -57,7 +56,7 @@ entries m (e ∷ rest) = pick (fine (reply m e)) (entry_of e.0) [] ++ entries (n
 -- ---- one line
 data Enters (m : Machine) (l : List Attempt) (o : Machine) : Type 0 where
   none : l ≡ [] → o.ledger ≡ m.ledger → Enters m l o
-  one : (a : Attempt) → l ≡ a ∷ [] → answer m.ledger a ≡ Entered.Accepted → o.ledger ≡ OneHandler.next m.ledger a → Enters m l o
+  one : (a : Attempt) → l ≡ a ∷ [] → answer m.ledger a ≡ (Ok tt) → o.ledger ≡ OneHandler.next m.ledger a → Enters m l o
 
 not_fine : (why : Status) → (why ≡ Accepted → ⊥) → is_fine why ≡ false
 not_fine Accepted n = absurd (n refl)

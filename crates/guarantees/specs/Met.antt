@@ -1,5 +1,5 @@
 -- What a granted transfer met, and a granted start: whose the pages were, and how the core stood; and which transfers are granted.
-use Rattle.std.specs.Prelude.{◌≡◌, refl, Bool, true, false, List, ℕ, ◌+◌, ◌-◌, ◌*◌, ◌/◌, ◌%◌, ◌≤◌, eqb, ltb, leb}
+use Rattle.std.specs.Prelude.{◌≡◌, refl, Bool, true, false, List, ℕ, ◌+◌, ◌-◌, ◌*◌, ◌/◌, ◌%◌, ◌≤◌, eqb, ltb, leb, None, Ok, Option, Some}
 use Rattle.std.proofs.Common.{sym, subst, ◌∙◌, ⊎_elim, arith}
 use borrow.Author.Tests.{eqb-true, eq-eqb, ne_eqb, ltb-true, ltb-false, leb-true, leb-false}
 use Rattle.rules.specs.Choice.{pick, pick_yes, pick_no, by, either, chosen, yes_or_no, left_true, right_true}
@@ -7,12 +7,9 @@ use Rattle.rules.specs.Sizes.{secure, normal, realm, last_world, page_size}
 use Rattle.pages.specs.Window.{acceptable, page_of, run_of, run_is, InPage, page_at, page_below, page_past}
 use Rattle.pages.specs.Owners.{owner, owned_if}
 use Rattle.pages.specs.declared.Window.{Window}
-use Rattle.pages.specs.declared.Place.{Place}
-use Rattle.pages.specs.declared.Place.TheVariants.{Page, Outside}
 use Rattle.mapping.proofs.Sound.{unmet_run, unmet_if}
 use Rattle.ranges.specs.declared.Mapping.{Mapping}
 use Rattle.transfers.proofs.Granted.{transfer_granted, movable_granted, moved_from}
-use Rattle.transfers.specs.declared.Verdict.TheVariants.{Granted}
 use Rattle.judgements.specs.Judge.{owned_at, good_start}
 use Rattle.judgements.specs.Grounds.{Takes, Between}
 use Rattle.judgements.proofs.Grounds.{grounded}
@@ -26,21 +23,21 @@ use Rattle.frames.specs.Frames.{Machine, state_of}
 use Rattle.guarantees.specs.Statements.{window, mapped, caller, giver, Had, Startable}
 
 -- ---- a place that this owner has
-record OwnedPlace (o : List ℕ) (p : Place) : Type 0 where
+record OwnedPlace (o : List ℕ) (p : Option ℕ) : Type 0 where
   page : ℕ
-  is : p ≡ Page page
+  is : p ≡ Some page
   owned : owner o page ≡ normal
 
-owned_place : (o : List ℕ) (p : Place) → owned_at o p normal ≡ true → OwnedPlace o p
+owned_place : (o : List ℕ) (p : Option ℕ) → owned_at o p normal ≡ true → OwnedPlace o p
 unfolding owned_at
-owned_place o (Page page) e = record { page = page; is = refl; owned = eqb-true _ _ e }
-owned_place o Outside e = absurd (yes_or_no _ e refl)
+owned_place o (Some page) e = record { page = page; is = refl; owned = eqb-true _ _ e }
+owned_place o None e = absurd (yes_or_no _ e refl)
 
 -- the page that an address is found in holds it
-not_outside : {p : Place} {page : ℕ} → p ≡ Page page → p ≡ Outside → ⊥
+not_outside : {p : Option ℕ} {page : ℕ} → p ≡ Some page → p ≡ None → ⊥
 not_outside e f = let z : ◌≡◌ {A = ℕ} 0 1 = cc in omega arith
 
-in_page : (w : Window) (address page : ℕ) → page_of w address ≡ Page page → InPage w address page
+in_page : (w : Window) (address page : ℕ) → page_of w address ≡ Some page → InPage w address page
 in_page w address page e =
     either (ltb address w.base) (λ y. absurd (not_outside e (page_below w address (ltb-true _ _ y))))
     (λ n. either (leb (w.base + page_size * w.pages) address) (λ y. absurd (not_outside e (page_past w address (leb-true _ _ y))))
@@ -49,7 +46,7 @@ in_page w address page e =
     let high = leb-false (w.base + page_size * w.pages) address k in
     let p : ℕ = (address - w.base) / page_size in
     let i : InPage w address p = record { low = omega arith; high = omega arith; inside = omega arith } in
-    let q : Page p ≡ Page page = sym (page_at w address p i) ∙ e in
+    let q : Some p ≡ Some page = sym (page_at w address p i) ∙ e in
     let z : p ≡ page = cc in
     subst (λ (n : ℕ). InPage w address n) z i))
 
@@ -64,7 +61,7 @@ module _ (m : Machine) (core : ℕ) (xs : List ℕ) where
       (pick_no _ _ _ (ne_eqb (caller m core xs) normal n), refl)
   gives from to list to_normal t = (pick_yes _ _ _ (eq-eqb normal normal refl), refl)
 
-  pub had : acceptable (window m) ≡ true → (start count first to : ℕ) → run_of (window m) start count ≡ Page first → deed_in s core xs ≡ Move first count to
+  pub had : acceptable (window m) ≡ true → (start count first to : ℕ) → run_of (window m) start count ≡ Some first → deed_in s core xs ≡ Move first count to
       → Takes (caller m core xs) × Had m (giver m core xs to) start count
   had ok start count first to l d =
       let g = moves s core xs first count to d in
@@ -81,7 +78,7 @@ module _ (m : Machine) (core : ℕ) (xs : List ℕ) where
       )
 
   -- a run that the giver has whole and unmapped gets a verdict that grants it
-  pub movable : Right s → caller m core xs ≤ last_world → (start count to : ℕ) → (h : Had m (giver m core xs to) start count) → move_verdict (sight s core).inner start count to ≡ Granted h.first
+  pub movable : Right s → caller m core xs ≤ last_world → (start count to : ℕ) → (h : Had m (giver m core xs to) start count) → move_verdict (sight s core).inner start count to ≡ Ok h.first
   movable r few start count to h =
       let i = run_is (window m) r.window start count h.first h.lies in
       let b = eqb to normal in

@@ -1,9 +1,8 @@
 -- What a call asks for, and who is named as a page's owner by a run: what a reader takes to be the last granted transfer of the page, and the set-up line that named it.
-use Rattle.std.specs.Prelude.{◌≡◌, List, [], ◌∷◌, ◌++◌, ◌⊎◌, ℕ, ◌+◌, ◌≤◌, ◌<◌}
+use Rattle.std.specs.Prelude.{◌≡◌, List, [], ◌∷◌, ◌++◌, ◌⊎◌, ℕ, ◌+◌, ◌≤◌, ◌<◌, Some}
 use Rattle.registers.specs.Registers.{saved}
 use Rattle.pages.specs.Window.{run_of}
 use Rattle.pages.specs.Owners.{owner}
-use Rattle.pages.specs.declared.Place.TheVariants.{Page}
 use Rattle.judgements.specs.Judge.{called_by, args_of}
 use Rattle.calls.specs.Step.{sight, caller_of}
 use Rattle.parsing.specs.declared.Status.TheVariants.{Accepted}
@@ -41,7 +40,7 @@ pub record Transfers (m : Machine) (e : Event) (page to : ℕ) : Type 0 where
   pub asks : AsksTransfer m core e.1 start count to
   pub granted : ToldZero m core e
   pub lowest : ℕ
-  pub lies : run_of (window m.setup) start count ≡ Page lowest
+  pub lies : run_of (window m.setup) start count ≡ Some lowest
   pub low : lowest ≤ page
   pub high : page < lowest + count
 

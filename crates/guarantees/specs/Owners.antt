@@ -1,13 +1,11 @@
 -- The owner of a page after a run is the one whom the run names, and nobody else is named.
-use Rattle.std.specs.Prelude.{◌≡◌, true, false, ℕ, ◌+◌, ◌≤◌, ◌<◌, leb, ltb}
+use Rattle.std.specs.Prelude.{◌≡◌, true, false, ℕ, ◌+◌, ◌≤◌, ◌<◌, leb, ltb, Some}
 use Rattle.std.proofs.Math.Path.{refl, sym, ap}
 use Rattle.std.proofs.Common.{◌∙◌, arith, leb-true, leb-false, ltb-true, ltb-false}
 use Rattle.rules.specs.Choice.{either}
 use Rattle.pages.specs.Owners.{owner}
 use Rattle.pages.specs.Named.{is_named, free_at}
 use Rattle.pages.specs.Naming.{naming_granted, granted_inside, granted_outside}
-use Rattle.pages.specs.declared.Place.TheVariants.{Page}
-use Rattle.rules.specs.declared.Entered.TheVariants as Entered
 use Rattle.judgements.specs.declared.Deed.{Deed}
 use Rattle.judgements.specs.declared.Deed.TheVariants.{Nothing, Move, Map, Unmap, Start, GoOff, HandOver, Finish}
 use Rattle.calls.specs.Effects.{deed_in, Carries}
@@ -30,7 +28,7 @@ use Rattle.guarantees.specs.Fit.{Fit}
 pub moves_deed : {m : Machine} → Fit m → {e : Event} {page to : ℕ} (t : Transfers m e page to) → deed_in (state_of m) t.core e.1 ≡ Move t.lowest t.count to
 moves_deed {m} fit {e} {to = to} t =
     let g = transfer_moves m fit e t.core t.is_call t.accepted t.start t.count to t.asks t.granted in
-    let k : Page g.first ≡ Page t.lowest = sym g.lies ∙ t.lies in
+    let k : Some g.first ≡ Some t.lowest = sym g.lies ∙ t.lies in
     let f : g.first ≡ t.lowest = cc in
     rw (← f) g.moves
 

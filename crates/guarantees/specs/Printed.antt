@@ -1,10 +1,10 @@
 -- Nothing is cut where it is printed: in a run over lines every number that an answer shows has at most sixteen digits, and its core and world at most two.
-use Rattle.std.specs.Prelude.{◌≡◌, refl, List, [], ◌∷◌, ◌++◌, ℕ, zero, suc, ◌+◌, ◌-◌, ◌*◌, ◌/◌, ◌%◌, ◌^◌, ◌≤◌, ◌<◌, ltb, length, get_or}
+use Rattle.std.specs.Prelude.{◌≡◌, refl, List, [], ◌∷◌, ◌++◌, ℕ, zero, suc, ◌+◌, ◌-◌, ◌*◌, ◌/◌, ◌%◌, ◌^◌, ◌≤◌, ◌<◌, ltb, length, get_or, Option, None, Some}
 use Rattle.std.proofs.Math.Path.{ap}
 use Rattle.std.proofs.Common.{arith, pow-suc, ltb-true, ltb-false}
-use Rattle.std.proofs.Math.Option.{Option, none, some}
 use Rattle.std.proofs.Math.ListN.{get_or-append}
 use Rattle.std.proofs.Math.Seq.{get_or-append_seam}
+use Rattle.mapping.specs.Leads.{To, to_phys, to_attr}
 use Rattle.rules.specs.Choice.{chosen, either}
 use Rattle.identifiers.specs.Identifier.{argument}
 use Rattle.identifiers.specs.declared.Parts.{Parts}
@@ -15,8 +15,6 @@ use Rattle.mapping.specs.Mapping.{deciding, leading, lead_of}
 use Rattle.mapping.specs.Entries.{Every, every_among}
 use Rattle.mapping.proofs.Deciding.{deciding_is}
 use Rattle.mapping.specs.Sound.{Formed}
-use Rattle.mapping.specs.declared.Lead.{Lead}
-use Rattle.mapping.specs.declared.Lead.TheVariants as Lead
 use Rattle.ranges.specs.declared.Mapping.{Mapping}
 use Rattle.judgements.specs.declared.Deed.{Deed}
 use Rattle.judgements.specs.declared.Deed.TheVariants.{Nothing, Move, Map, Unmap, Start, GoOff, HandOver, Finish}
@@ -138,19 +136,19 @@ unfolding argument
 argument_small p n h = chosen (λ (k : ℕ). k < 2 ^ 64) _ _ _ (λ y. omega arith) (λ y. h)
 
 -- where an address leads
-decides_formed : (w : Window) (l : List Mapping) (x : ℕ) (n : Mapping) → Every (Formed w) l → deciding l x ≡ some n → Formed w n
+decides_formed : (w : Window) (l : List Mapping) (x : ℕ) (n : Mapping) → Every (Formed w) l → deciding l x ≡ Some n → Formed w n
 decides_formed w l x n f k = every_among (Formed w) l n f (deciding_is l x n k).among
 
-pub led : (w : Window) (l : List Mapping) (x phys attr : ℕ) → Every (Formed w) l → lead_of l x ≡ Lead.To phys attr → (phys < 2 ^ 64) × (attr < 2 ^ 64)
+pub led : (w : Window) (l : List Mapping) (x phys attr : ℕ) → Every (Formed w) l → lead_of l x ≡ To phys attr → (phys < 2 ^ 64) × (attr < 2 ^ 64)
 unfolding lead_of leading
 led w l x phys attr f e = by_deciding (deciding l x) refl e
   where
-    by_deciding : (d : Option Mapping) → deciding l x ≡ d → leading x d ≡ Lead.To phys attr → (phys < 2 ^ 64) × (attr < 2 ^ 64)
-    by_deciding none k g = let z : ◌≡◌ {A = ℕ} 0 1 = cc in absurd (omega arith)
-    by_deciding (some n) k g =
-        let q : Lead.To ((n.phys + (x - n.virt)) % 2 ^ 64) n.attr ≡ Lead.To phys attr = g in
-        let p : (n.phys + (x - n.virt)) % 2 ^ 64 ≡ phys = cc in
-        let a : n.attr ≡ attr = cc in
+    by_deciding : (d : Option Mapping) → deciding l x ≡ d → leading x d ≡ To phys attr → (phys < 2 ^ 64) × (attr < 2 ^ 64)
+    by_deciding None k g = let z : ◌≡◌ {A = ℕ} 0 1 = cc in absurd (omega arith)
+    by_deciding (Some n) k g =
+        let q : To ((n.phys + (x - n.virt)) % 2 ^ 64) n.attr ≡ To phys attr = g in
+        let p : (n.phys + (x - n.virt)) % 2 ^ 64 ≡ phys = to_phys q in
+        let a : n.attr ≡ attr = to_attr q in
         (omega (arith, p), omega (arith, a, (decides_formed w l x n f k).attributes))
 
 -- a hand-over, a finish, or neither

@@ -1,9 +1,9 @@
 -- What the monitor guarantees, in plain statements: of the machine after any run, and of each line by itself.
-use Rattle.std.specs.Prelude.{◌≡◌, true, false, List, [], ◌∷◌, ◌++◌, ◌⊎◌, ℕ, zero, suc, ◌+◌, ◌-◌, ◌*◌, ◌/◌, ◌%◌, ◌^◌, ◌≤◌, ◌<◌, eqb, length, get_or, drop}
+use Rattle.std.specs.Prelude.{◌≡◌, true, false, List, [], ◌∷◌, ◌++◌, ◌⊎◌, ℕ, zero, suc, ◌+◌, ◌-◌, ◌*◌, ◌/◌, ◌%◌, ◌^◌, ◌≤◌, ◌<◌, eqb, length, get_or, drop, None, Some}
+use Rattle.mapping.specs.Leads.{To}
 use Rattle.rules.specs.Choice.{pick}
 use Rattle.rules.specs.declared.Reason.{Reason}
 use Rattle.ledger.specs.Ledger.{handler}
-use Rattle.ledger.specs.declared.Lookup.TheVariants.{Nobody}
 use Rattle.identifiers.specs.Identifier.{bits, admitted, argument}
 use Rattle.registers.specs.Registers.{saved, saving}
 use Rattle.registers.specs.declared.Shown.{Shown}
@@ -12,7 +12,6 @@ use Rattle.cores.specs.Cores.{power, turn}
 use Rattle.pages.specs.Window.{run_of, InPage}
 use Rattle.pages.specs.Owners.{owner, count_owned}
 use Rattle.pages.specs.declared.Window.{Window}
-use Rattle.pages.specs.declared.Place.TheVariants.{Page}
 use Rattle.mapping.specs.Lists.{held}
 use Rattle.mapping.specs.Mapping.{lead_of}
 use Rattle.mapping.specs.Entries.{Every, Among, Beside, Inserted, Removed}
@@ -20,7 +19,6 @@ use Rattle.mapping.specs.Sound.{covers, Formed}
 use Rattle.mapping.specs.Granted.{Mappable}
 use Rattle.mapping.specs.Once.{Reaches, LedBy, count_covered}
 use Rattle.ranges.specs.declared.Mapping.{Mapping}
-use Rattle.mapping.specs.declared.Lead.TheVariants.{To}
 use Rattle.rules.specs.Sizes.{normal}
 use Rattle.judgements.specs.Judge.{called_by, args_of, found}
 use Rattle.judgements.specs.Grounds.{Calls, Takes}
@@ -134,7 +132,7 @@ on_below m (suc n) = pick (is_on (power m.powers n)) 1 0 + on_below m n
 -- a run of pages inside the window is another owner's now, each page of it and no other
 pub record Given (m last : Machine) (start count to : ℕ) : Type 0 where
   pub first : ℕ
-  pub lies : run_of (window m) start count ≡ Page first
+  pub lies : run_of (window m) start count ≡ Some first
   pub inside : (page : ℕ) → first ≤ page → page < first + count → owner_in last page ≡ to
   pub outside : (page : ℕ) → (first ≤ page → page < first + count → ⊥) → owner_in last page ≡ owner_in m page
 
@@ -142,7 +140,7 @@ pub record Given (m last : Machine) (start count to : ℕ) : Type 0 where
 pub record Had (m : Machine) (world start count : ℕ) : Type 0 where
   pub some : 0 < count
   pub first : ℕ
-  pub lies : run_of (window m) start count ≡ Page first
+  pub lies : run_of (window m) start count ≡ Some first
   pub owned : (page : ℕ) → first ≤ page → page < first + count → owner_in m page ≡ world
   pub unmapped : (page : ℕ) → first ≤ page → page < first + count → covers (window m) (mapped m world) page ≡ false
 
@@ -240,7 +238,7 @@ module _ (m : Machine) (core : ℕ) (xs : List ℕ) where
       pub dispatched : admitted (called_by xs) ≡ true
           → judged_in (state_of m) core xs ≡ found (sight (state_of m) core).inner (args_of (called_by xs) xs) (key xs) (handler m.ledger (called_by xs).fast (called_by xs).owner)
       -- A call for whose type and owner it has none is refused with -1.
-      pub unserved : handler m.ledger (called_by xs).fast (called_by xs).owner ≡ Nobody → last ≡ denied 1
+      pub unserved : handler m.ledger (called_by xs).fast (called_by xs).owner ≡ None → last ≡ denied 1
       -- So is one that the handler does not know, and one that is for another world than the caller's.
       pub unknown : Reached (sight (state_of m) core) xs (λ h. Unknown h (key xs)) → last ≡ denied 1
       pub barred : Reached (sight (state_of m) core) xs (λ h. Barred h (key xs) caller) → last ≡ denied 1

@@ -1,10 +1,9 @@
 -- The theorems: what is stated holds after any lines whatever, from any accepted set-up on, of whatever keeps the promise of the step.
-use Rattle.std.specs.Prelude.{◌≡◌, refl, List, [], ◌∷◌, ◌++◌, map, ℕ, ◌^◌, ◌<◌, length}
+use Rattle.std.specs.Prelude.{◌≡◌, refl, List, [], ◌∷◌, ◌++◌, map, ℕ, ◌^◌, ◌<◌, length, Option}
 use Rattle.std.proofs.Common.{sym, ap, ◌∙◌, arith}
 use Rattle.std.proofs.lemmas.List.{length-map}
 use Rattle.ledger.specs.Only.{only}
 use Rattle.ledger.specs.OneHandler.{One, covers}
-use Rattle.ledger.specs.declared.Lookup.{Lookup}
 use Rattle.registers.specs.Registers.{saved_zeros}
 use Rattle.cores.specs.Power.{power_of, off, on}
 use Rattle.cores.specs.declared.Turn.{Turn}
@@ -32,7 +31,7 @@ use Rattle.guarantees.specs.Printed.{Small, line_small, digits_value}
 
 -- what the ledger says of a call, by the entries that a run has accepted
 pub record Dispatched (run : Events) (m : Machine) (core : ℕ) (xs : List ℕ) : Type 0 where
-  pub says : Lookup
+  pub says : Option ℕ
   -- of these entries one alone covers the call's type and owner, and the ledger names its handler; or none does, and it names nobody
   pub one : One (only (covers (called_by xs).fast (called_by xs).owner) (entries first run)) says
   -- and that handler judges the call, or it is refused

@@ -1,5 +1,5 @@
 -- Signs read one by one: whether all of a line are digits, a byte, and a number.
-use Rattle.std.specs.Prelude.{◌≡◌, Bool, true, false, ◌&&◌, List, ℕ, zero, suc, ◌+◌, ◌-◌, ◌*◌, ◌%◌, ◌^◌, ◌≤◌, ◌<◌, get_or}
+use Rattle.std.specs.Prelude.{◌≡◌, Bool, true, false, ◌&&◌, List, ℕ, zero, suc, ◌+◌, ◌-◌, ◌*◌, ◌%◌, ◌^◌, ◌≤◌, ◌<◌, get_or, None, Option, Some}
 use Rattle.std.proofs.Math.Path.{refl}
 use Rattle.std.proofs.Common.{ap, ◌∙◌, pow-suc, Fits, lt-ltb, le-ltb}
 use native.Mathlib.Omega.{arith}
@@ -10,12 +10,10 @@ use Rattle.std.proofs.Math.ListN.{length, get_or-eq_default}
 use Rattle.rules.specs.Choice.{pick, picked, passed, by, left_false, right_false, both_true}
 use Rattle.tools.specs.Search.{all, all_goes, all_stops, all_ends}
 use Rattle.hex_digits.specs.Hex.{digit_of, digit_at, all_digits, value, number, digit_most}
-use Rattle.hex_digits.specs.declared.Byte.{Byte}
-use Rattle.hex_digits.specs.declared.Byte.TheVariants.{Is, NoDigits}
 
 -- byte k of a line, where its two signs are digits
-unfoldable pub byte_of : List ℕ → ℕ → Byte
-byte_of l k = pick (all (digit_at l) (k * 2) 2) (Is (number l k 1)) NoDigits
+unfoldable pub byte_of : List ℕ → ℕ → Option ℕ
+byte_of l k = pick (all (digit_at l) (k * 2) 2) (Some (number l k 1)) None
 
 -- past the end there is no digit
 pub digit_past : (l : List ℕ) (i : ℕ) → length l ≤ i → 16 ≡ digit_of (get_or l i 0)
@@ -67,30 +65,30 @@ module _ (l : List ℕ) (k high : ℕ) (a : high ≡ digit_of (get_or l (k * 2) 
   unfolding all
   two = rw add-one (by (λ (c : Bool). (digit_at l (k * 2) && (c && true)) ≡ (digit_at l (k * 2) && c)) (digit_at l (suc (k * 2))) (λ _. refl) (λ _. refl))
 
-  pub byte_first : high ≡ 16 → NoDigits ≡ byte_of l k
+  pub byte_first : high ≡ 16 → None ≡ byte_of l k
   unfolding byte_of
   byte_first h = passed _ _ _ _ (two ∙ left_false (digit_at l (k * 2)) (digit_at l (k * 2 + 1)) (no_digit l (k * 2) high a (omega arith))) refl
 
   module _ (low : ℕ) (b : low ≡ digit_of (get_or l (k * 2 + 1) 0)) where
-    pub byte_second : low ≡ 16 → NoDigits ≡ byte_of l k
+    pub byte_second : low ≡ 16 → None ≡ byte_of l k
     unfolding byte_of
     byte_second h = passed _ _ _ _ (two ∙ right_false (digit_at l (k * 2)) (digit_at l (k * 2 + 1)) (no_digit l (k * 2 + 1) low b (omega arith))) refl
 
-    pub byte_is : high ≤ 16 → (high ≡ 16 → ⊥) → low ≤ 16 → (low ≡ 16 → ⊥) → Is (high * 16 + low) ≡ byte_of l k
+    pub byte_is : high ≤ 16 → (high ≡ 16 → ⊥) → low ≤ 16 → (low ≡ 16 → ⊥) → Some (high * 16 + low) ≡ byte_of l k
     unfolding byte_of value
     byte_is g n h m =
         let x : high < 16 = omega arith in
         let y : low < 16 = omega arith in
         picked _ _ _ _ (two ∙ both_true (digit_at l (k * 2)) (digit_at l (k * 2 + 1)) (is_digit l (k * 2) high a x) (is_digit l (k * 2 + 1) low b y))
-        (rw add-zero (ap Is (omega arith)))
+        (rw add-zero (ap Some (omega arith)))
 
 pub ruleset bytes = (byte_first, byte_second, byte_is)
 
 -- what was read was two digits
-pub byte_was : (l : List ℕ) (k x : ℕ) → Is x ≡ byte_of l k → (all (digit_at l) (k * 2) 2 ≡ true) × (x ≡ number l k 1)
+pub byte_was : (l : List ℕ) (k x : ℕ) → Some x ≡ byte_of l k → (all (digit_at l) (k * 2) 2 ≡ true) × (x ≡ number l k 1)
 unfolding byte_of pick
 byte_was l k x e =
-    by (λ (b : Bool). all (digit_at l) (k * 2) 2 ≡ b → Is x ≡ pick b (Is (number l k 1)) NoDigits → (all (digit_at l) (k * 2) 2 ≡ true) × (x ≡ number l k 1)) (all (digit_at l) (k * 2) 2)
+    by (λ (b : Bool). all (digit_at l) (k * 2) 2 ≡ b → Some x ≡ pick b (Some (number l k 1)) None → (all (digit_at l) (k * 2) 2 ≡ true) × (x ≡ number l k 1)) (all (digit_at l) (k * 2) 2)
     (λ y h g. (h, cc))
     (λ y h g. absurd (let z : ◌≡◌ {A = ℕ} 0 1 = cc in omega arith))
     refl e

@@ -1,47 +1,31 @@
 // Lower-case hexadecimal digits, read one by one from any bytes, and what reading and writing many of them share.
 #![tactic(auto)]
 
-ghost use Rattle.std.specs.Prelude.{◌≡◌, ◌*◌, ◌<◌, ◌≤◌, min, get_or};
-ghost use Rattle.hex_digits.specs.Hex.{digit_of, all_digits, number};
+ghost use Rattle.std.specs.Prelude.{◌≡◌, ◌+◌, ◌*◌, ◌^◌, ◌<◌, ◌≤◌, min, get_or};
+ghost use Rattle.hex_digits.specs.Hex.{digit_of, all_digits, value, number};
 ghost use Rattle.hex_digits.specs.Read.{byte_of};
 ghost use Rattle.hex_digits.specs.Swap.{swap_two, swap_four, swap};
 
-// The byte that two signs stand for, or that they are no digits.
-#[derive(Clone, Copy)]
-pub enum Byte {
-    Is(u64),
-    NoDigits,
-}
-
-// A digit's value, and 16 for any other byte.
+// A digit's value, and 16 for any other byte: no Option, since `digit_of` is a number, and every number of a line is built on it.
+#[tactic(auto, using(crate::specs::Hex::digit_below, crate::specs::Hex::digit_low, crate::specs::Hex::digit_between, crate::specs::Hex::digit_high, crate::specs::Hex::digit_above))]
 pub fn digit(b: u8) -> u8
     ensures { result ≡ digit_of b }
 {
-    if b < 48 {
-        return 16;
+    match b {
+        b'0'..=b'9' => b - b'0',
+        b'a'..=b'f' => b - b'a' + 10,
+        _ => 16,
     }
-    if b < 58 {
-        return b - 48;
-    }
-    if b < 97 {
-        return 16;
-    }
-    if b < 103 {
-        return b - 87;
-    }
-    16
 }
 
 // Whether each sign of a line is a digit.
 pub fn all_digits(line: &[u8]) -> bool
     ensures { result ≡ all_digits line.now }
 {
-    let mut i: usize = 0;
-    while i < line.len() {
-        if 15 < digit(line[i]) {
+    for sign in line {
+        if 15 < digit(*sign) {
             return false;
         }
-        i += 1;
     }
     true
 }
@@ -51,50 +35,45 @@ fn digit_at(line: &[u8], at: usize) -> u64
     ensures { (result ≡ digit_of (get_or line.now at 0)) × (result ≤ 16) }
 {
     if at < line.len() {
-        return tools::wide(digit(line[at]));
+        return u64::from(digit(line[at]));
     }
     16
 }
 
 // Byte k of a line.
-pub fn byte_at(line: &[u8], k: u8) -> Byte
+pub fn byte_at(line: &[u8], k: u8) -> Option<u64>
     ensures { result ≡ byte_of line.now k }
 {
-    let at = k as usize * 2;
+    let at = usize::from(k) * 2;
     let high = digit_at(line, at);
     if high == 16 {
-        return Byte::NoDigits;
+        return None;
     }
     let low = digit_at(line, at + 1);
     if low == 16 {
-        return Byte::NoDigits;
+        return None;
     }
-    Byte::Is(high * 16 + low)
+    Some(high * 16 + low)
 }
 
-// The signs of n bytes, of eight at most.
-fn signs_of(n: u8) -> usize
-    ensures { (result ≡ min n 8 * 2) × (result ≤ 16) }
+// The number that n signs of a line stand for, of sixteen at most, from a place on. A sign that is no digit counts nothing.
+pub fn value(line: &[u8], at: usize, n: usize) -> u64
+    requires few { n ≤ 16 }
+    requires in_reach { at + n < 2 ^ 64 }
+    ensures { result ≡ value line.now at n }
 {
-    if n < 8 {
-        return n as usize * 2;
+    let mut x: u64 = 0;
+    for i in 0..n {
+        x = x * 16 + digit_at(line, at + i) % 16;
     }
-    16
+    x
 }
 
-// The number in n bytes of a line, of eight at most, from byte k on. A sign that is no digit counts nothing.
+// The number in n bytes of a line, of eight at most, from byte k on, in the same way.
 pub fn number(line: &[u8], k: u8, n: u8) -> u64
     ensures { result ≡ number line.now k (min n 8) }
 {
-    let at = k as usize * 2;
-    let size = signs_of(n);
-    let mut x: u64 = 0;
-    let mut i: usize = 0;
-    while i < size {
-        x = x * 16 + digit_at(line, at + i) % 16;
-        i += 1;
-    }
-    x
+    value(line, usize::from(k) * 2, usize::from(n.min(8)) * 2)
 }
 
 // Two bytes in the other order.

@@ -44,12 +44,10 @@ fn marks_of(line: &[u8], at: usize) -> Marks
 {
     let mut most: u8 = 0;
     let mut each = [0u8; 128];
-    let mut i: usize = 0;
-    while i < 128 {
+    for i in 0..128 {
         let d = mark(line[at + i]);
         each[i] = d;
         most = larger(most, d);
-        i += 1;
     }
     Marks { most, each }
 }
@@ -58,7 +56,7 @@ fn marks_of(line: &[u8], at: usize) -> Marks
 fn pair(a: u8, b: u8) -> u16
     ensures { result ≡ pair_of a b }
 {
-    a as u16 + b as u16 * 256
+    u16::from(a) + u16::from(b) * 256
 }
 
 // 128 digits as pairs.
@@ -66,10 +64,8 @@ fn pairs(ds: &[u8; 128]) -> [u16; 64]
     ensures { Row (pair_at ds.now) 64 result }
 {
     let mut ws = [0u16; 64];
-    let mut i: usize = 0;
-    while i < 64 {
+    for i in 0..64 {
         ws[i] = pair(ds[i * 2], ds[i * 2 + 1]);
-        i += 1;
     }
     ws
 }
@@ -86,10 +82,8 @@ fn bytes(ws: &[u16; 64]) -> [u8; 64]
     ensures { Row (byte_at ws.now) 64 result }
 {
     let mut bs = [0u8; 64];
-    let mut i: usize = 0;
-    while i < 64 {
+    for i in 0..64 {
         bs[i] = pack(ws[i]);
-        i += 1;
     }
     bs
 }
@@ -97,7 +91,7 @@ fn bytes(ws: &[u16; 64]) -> [u8; 64]
 fn octet(b: u8) -> u64
     ensures { (result ≡ b) × (result < 256) }
 {
-    b as u64
+    u64::from(b)
 }
 
 // Two bytes as a number, the lowest first.
@@ -129,10 +123,8 @@ fn words(bs: &[u8; 64]) -> [u64; 8]
     ensures { Row (word_at bs.now) 8 result }
 {
     let mut ys = [0u64; 8];
-    let mut i: usize = 0;
-    while i < 8 {
+    for i in 0..8 {
         ys[i] = hex_digits::swapped(low_first(bs, i * 8));
-        i += 1;
     }
     ys
 }
@@ -148,10 +140,11 @@ fn join(ds: &[u8; 128]) -> [u64; 8]
 }
 
 // The eight numbers of the 128 signs from byte k on, and whether these are digits; where they are not, the numbers lent are left.
+// No Option: `eight` says both of the numbers that are lent.
 pub fn numbers(line: &[u8], k: u8, xs: &mut [u64; 8]) -> bool
     ensures { (result, xs.new) ≡ eight line.now k xs.old }
 {
-    let at = k as usize * 2;
+    let at = usize::from(k) * 2;
     if line.len() < at + 128 {
         return false;
     }

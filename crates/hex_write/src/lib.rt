@@ -13,11 +13,9 @@ fn put_eight(out: &mut [u8], at: usize, v: u64)
     ensures { out.new ≡ laid out.old at (low_bytes v 8) }
 {
     let mut y = v;
-    let mut i: usize = 0;
-    while i < 8 {
+    for i in 0..8 {
         out[at + i] = (y % 256) as u8;
-        y = y / 256;
-        i += 1;
+        y /= 256;
     }
 }
 
@@ -34,14 +32,12 @@ fn bytes_of(x0: u64, x1: u64, x2: u64, x3: u64) -> [u8; 32]
 }
 
 // The sign of a digit.
+#[tactic(auto, using(hex_digits::specs::Hex::sign_low, hex_digits::specs::Hex::sign_high))]
 fn sign(d: u8) -> u8
     requires { d < 16 }
     ensures { result ≡ sign_of d }
 {
-    if d < 10 {
-        return 48 + d;
-    }
-    87 + d
+    if d < 10 { b'0' + d } else { b'a' + (d - 10) }
 }
 
 fn put_one(out: &mut [u8], at: usize, b: u8)
@@ -65,21 +61,17 @@ fn put_pairs(bs: &[u8; 32], out: &mut [u8], at: usize)
     requires { at + 64 ≤ length out.old }
     ensures { out.new ≡ laid out.old at (bytes_text bs.now 0 32) }
 {
-    let mut i: usize = 0;
-    while i < 32 {
+    for i in 0..32 {
         put_pair(out, at + i * 2, bs[i]);
-        i += 1;
     }
 }
 
 // The last two digits of a number. It returns the place behind them; where they do not fit, nothing is put and the place stays.
+#[tactic(auto, using(crate::specs::Digits::byte_fits, crate::specs::Digits::byte_not))]
 pub fn put_byte(out: &mut [u8], at: usize, x: u64) -> usize
     ensures { (result, out.new) ≡ put out.old at (in_hex 2 x) }
 {
-    if out.len() < 2 {
-        return at;
-    }
-    if out.len() - 2 < at {
+    if out.len() < 2 || out.len() - 2 < at {
         return at;
     }
     put_pair(out, at, (x % 256) as u8);
@@ -91,10 +83,7 @@ pub fn put_byte(out: &mut [u8], at: usize, x: u64) -> usize
 pub fn put_numbers(out: &mut [u8], at: usize, x0: u64, x1: u64, x2: u64, x3: u64) -> usize
     ensures { (result, out.new) ≡ put out.old at (four_text x0 x1 x2 x3) }
 {
-    if out.len() < 64 {
-        return at;
-    }
-    if out.len() - 64 < at {
+    if out.len() < 64 || out.len() - 64 < at {
         return at;
     }
     let bs = bytes_of(x0, x1, x2, x3);
@@ -106,20 +95,13 @@ pub fn put_numbers(out: &mut [u8], at: usize, x0: u64, x1: u64, x2: u64, x3: u64
 pub fn put_digits(out: &mut [u8], at: usize, n: usize, x: u64) -> usize
     ensures { (result, out.new) ≡ put out.old at (in_hex n x) }
 {
-    if out.len() < n {
-        return at;
-    }
-    if out.len() - n < at {
+    if out.len() < n || out.len() - n < at {
         return at;
     }
     let mut y = x;
-    let mut left = n;
-    while 0 < left {
-        let i = left - 1;
-        let d = (y % 16) as u8;
-        out[at + i] = sign(d);
-        y = y / 16;
-        left = i;
+    for i in (0..n).rev() {
+        out[at + i] = sign((y % 16) as u8);
+        y /= 16;
     }
     at + n
 }

@@ -1,13 +1,11 @@
 -- A call's identifier: the parts in its fields, and the identifier that parts make.
 use Rattle.std.proofs.Math.Path.{◌≡◌, sym}
 use Rattle.std.proofs.Common.{ap, ◌∙◌, lt-ltb, ltb-true, eq-eqb, ne_eqb}
-use Rattle.std.specs.Prelude.{Bool, true, false, ◌&&◌, ℕ, ◌+◌, ◌-◌, ◌*◌, ◌/◌, ◌%◌, ◌^◌, ◌≤◌, ◌<◌, ltb, eqb}
+use Rattle.std.specs.Prelude.{Bool, true, false, ◌&&◌, ℕ, ◌+◌, ◌-◌, ◌*◌, ◌/◌, ◌%◌, ◌^◌, ◌≤◌, ◌<◌, ltb, eqb, None, Option, Some}
 use native.Mathlib.Omega.{arith}
 use Rattle.rules.specs.Choice.{pick, pick_yes, pick_no, chosen, either, left_true, right_true}
 use Rattle.identifiers.specs.declared.Identifier.{Identifier}
 use Rattle.identifiers.specs.declared.Parts.{Parts}
-use Rattle.identifiers.specs.declared.Joined.{Joined}
-use Rattle.identifiers.specs.declared.Joined.TheVariants.{Whole, TooLarge}
 
 -- what the bits from `high` down to `low` hold, and whether they have room for a number
 abbrev pub bits : ℕ → ℕ → ℕ → ℕ
@@ -45,8 +43,8 @@ unfoldable pub whole_of : Parts → Identifier
 whole_of p = record { 0 = p.fast * 2 ^ 31 + p.wide * 2 ^ 30 + p.owner * 2 ^ 24 + p.reserved * 2 ^ 17 + p.hint * 2 ^ 16 + p.function }
 
 -- parts that all fit make an identifier; others make none
-unfoldable pub joined : Parts → Joined
-joined p = pick (fitting p) (Whole (whole_of p)) TooLarge
+unfoldable pub joined : Parts → Option Identifier
+joined p = pick (fitting p) (Some (whole_of p)) None
 
 -- the one key by which identifiers are compared: of a fast one, without its hint
 unfoldable pub key_of : Identifier → ℕ
@@ -102,21 +100,21 @@ fits_all p r = simp (lt-ltb _ _ r.fast, lt-ltb _ _ r.wide, lt-ltb _ _ r.owner, l
 
 -- ---- joining refuses exactly where a part is out of range
 module _ (p : Parts) where
-  pub joins : InRange p → joined p ≡ Whole (whole_of p)
+  pub joins : InRange p → joined p ≡ Some (whole_of p)
   unfolding joined
   joins r = pick_yes (fitting p) _ _ (fits_all p r)
 
-  pub too_large : (InRange p → ⊥) → joined p ≡ TooLarge
+  pub too_large : (InRange p → ⊥) → joined p ≡ None
   unfolding joined
   too_large n = either (fitting p) (λ e. absurd (n (in_range p e))) (λ e. pick_no (fitting p) _ _ e)
 
-  pub joined_in_range : (i : Identifier) → joined p ≡ Whole i → InRange p
+  pub joined_in_range : (i : Identifier) → joined p ≡ Some i → InRange p
   unfolding joined
   joined_in_range i e =
       either (fitting p) (λ f. in_range p f)
-      (λ f. let z : ◌≡◌ {A = ℕ} 0 1 = cc (pick_no (fitting p) (Whole (whole_of p)) TooLarge f) in absurd (omega arith))
+      (λ f. let z : ◌≡◌ {A = ℕ} 0 1 = cc (pick_no (fitting p) (Some (whole_of p)) None f) in absurd (omega arith))
 
-  joined_is : (i : Identifier) → joined p ≡ Whole i → i ≡ whole_of p
+  joined_is : (i : Identifier) → joined p ≡ Some i → i ≡ whole_of p
   joined_is i e = cc (joins (joined_in_range i e))
 
   -- how the code meets these: `found` is what its test says
@@ -124,10 +122,10 @@ module _ (p : Parts) where
     pub found_in_range : found ≡ true → InRange p
     found_in_range y = in_range p (sym e ∙ y)
 
-    pub joining : (i : Identifier) → found ≡ true → i ≡ whole_of p → Whole i ≡ joined p
-    joining i y h = ap Whole h ∙ sym (joins (found_in_range y))
+    pub joining : (i : Identifier) → found ≡ true → i ≡ whole_of p → Some i ≡ joined p
+    joining i y h = ap Some h ∙ sym (joins (found_in_range y))
 
-    pub refusing : found ≡ false → TooLarge ≡ joined p
+    pub refusing : found ≡ false → None ≡ joined p
     unfolding joined
     refusing n = sym (pick_no (fitting p) _ _ (sym e ∙ n))
 
@@ -143,18 +141,18 @@ made_of : (n above16 above17 above24 above30 fast wide owner function hint reser
     → fast * 2 ^ 31 + wide * 2 ^ 30 + owner * 2 ^ 24 + reserved * 2 ^ 17 + hint * 2 ^ 16 + function ≡ n
 made_of n above16 above17 above24 above30 fast wide owner function hint reserved a b c d e = omega arith
 
-pub join_split : (i : Identifier) → i.0 < 2 ^ 32 → joined (parts i) ≡ Whole i
+pub join_split : (i : Identifier) → i.0 < 2 ^ 32 → joined (parts i) ≡ Some i
 unfolding parts whole_of
 join_split i h =
     let e : (whole_of (parts i)).0 ≡ i.0 =
     made_of i.0 (i.0 / 2 ^ 16) (i.0 / 2 ^ 17) (i.0 / 2 ^ 24) (i.0 / 2 ^ 30) _ _ _ _ _ _ (omega arith) (omega arith) (omega arith) (omega arith) (omega arith) in
-    joins (parts i) (parts_in_range i) ∙ ap (λ (n : ℕ). Whole (record { 0 = n })) e
+    joins (parts i) (parts_in_range i) ∙ ap (λ (n : ℕ). Some (record { 0 = n })) e
 
 -- what stands below the rest in seven bits
 lowest : (n above low : ℕ) → n ≡ above * 2 ^ 7 + low → low < 2 ^ 7 → n % 2 ^ 7 ≡ low
 lowest n above low e h = omega arith
 
-pub split_join : (p : Parts) (i : Identifier) → joined p ≡ Whole i → parts i ≡ p
+pub split_join : (p : Parts) (i : Identifier) → joined p ≡ Some i → parts i ≡ p
 unfolding parts whole_of
 split_join p i e =
     let r = joined_in_range p i e in

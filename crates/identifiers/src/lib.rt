@@ -11,7 +11,7 @@ const LIMIT: u64 = 1 << 32;
 #[derive(Clone, Copy)]
 pub struct Identifier(pub u32);
 
-// What the fields of an identifier hold.
+// What the fields of an identifier hold. One-bit fields are numbers too, as the laws `negative_short` and `negative_long` say them.
 #[derive(Clone, Copy)]
 pub struct Parts {
     // 1 for a fast call, 0 for a yielding one
@@ -24,14 +24,6 @@ pub struct Parts {
     pub hint: u32,
     // bits 23 to 17, zero in a fast call
     pub reserved: u32,
-}
-
-// What joining gives.
-#[derive(Clone, Copy)]
-pub enum Joined {
-    Whole(Identifier),
-    // a part does not fit its field
-    TooLarge,
 }
 
 impl Identifier {
@@ -62,6 +54,7 @@ impl Identifier {
     const RESERVED_ROOM: u32 = 1 << 7;
 
     // The identifier that a caller's x0 holds.
+    #[tactic(auto, unfolding(crate::specs::Identifier::identifier_of))]
     pub fn of(x0: u64) -> Identifier
         ensures { result ≡ identifier_of x0 }
     {
@@ -69,6 +62,7 @@ impl Identifier {
     }
 
     // What stands in each field. Its bit 30 says how many bits a negative answer takes.
+    #[tactic(auto, unfolding(crate::specs::Identifier::parts, crate::specs::Identifier::answer_bits, crate::specs::Identifier::answer_bits_of))]
     pub fn split(self) -> Parts
         ensures { (result ≡ parts self) × (answer_bits result ≡ answer_bits_of self) }
     {
@@ -84,13 +78,14 @@ impl Identifier {
     }
 
     // The identifier with these parts, refused where one is too large for its field.
-    pub fn join(p: Parts) -> Joined
+    #[tactic(auto, using(crate::specs::Identifier::joinings))]
+    pub fn join(p: Parts) -> Option<Identifier>
         ensures { result ≡ joined p }
     {
         if p.fit() {
-            return Joined::Whole(p.whole());
+            return Some(p.whole());
         }
-        Joined::TooLarge
+        None
     }
 
     // The one key by which identifiers are compared: that of a fast call has its hint cleared.
@@ -108,38 +103,24 @@ impl Identifier {
 
 impl Parts {
     // Whether each part fits its field.
+    #[tactic(auto, using(rules::specs::Tests::choices), unfolding(crate::specs::Identifier::fitting))]
     fn fit(self) -> bool
         ensures { result ≡ fitting self }
     {
-        if Identifier::FAST_ROOM <= self.fast {
-            return false;
-        }
-        if Identifier::WIDE_ROOM <= self.wide {
-            return false;
-        }
-        if Identifier::OWNER_ROOM <= self.owner {
-            return false;
-        }
-        if Identifier::FUNCTION_ROOM <= self.function {
-            return false;
-        }
-        if Identifier::HINT_ROOM <= self.hint {
-            return false;
-        }
-        if Identifier::RESERVED_ROOM <= self.reserved {
-            return false;
-        }
-        true
+        self.fast < Identifier::FAST_ROOM
+            && self.wide < Identifier::WIDE_ROOM
+            && self.owner < Identifier::OWNER_ROOM
+            && self.function < Identifier::FUNCTION_ROOM
+            && self.hint < Identifier::HINT_ROOM
+            && self.reserved < Identifier::RESERVED_ROOM
     }
 
     // Whether the call passes the test on bits 23 to 17.
+    #[tactic(auto, using(rules::specs::Tests::choices), unfolding(crate::specs::Identifier::admitted))]
     pub fn admitted(self) -> bool
         ensures { result ≡ admitted self }
     {
-        if self.fast == 1 {
-            return self.reserved == 0;
-        }
-        true
+        self.fast != 1 || self.reserved == 0
     }
 
     // The identifier whose fields hold these parts.
@@ -155,6 +136,7 @@ impl Parts {
     }
 
     // The highest number in as many bits as a negative answer takes.
+    #[tactic(auto, using(crate::specs::Identifier::highest_short, crate::specs::Identifier::highest_long))]
     pub fn highest(self) -> u64
         ensures { result ≡ 2 ^ answer_bits self - 1 }
     {
@@ -165,6 +147,7 @@ impl Parts {
     }
 
     // What the call reads of an argument.
+    #[tactic(auto, using(rules::specs::Tests::choices), unfolding(crate::specs::Identifier::argument))]
     pub fn argument(self, x: u64) -> u64
         ensures { result ≡ argument self x }
     {

@@ -1,7 +1,7 @@
 // Splits identifiers into their parts and joins the parts again, a line for each.
 #![tactic(auto)]
 
-use identifiers::{Identifier, Joined, Parts};
+use identifiers::{Identifier, Parts};
 use std::io;
 
 fn say(rt: &impl Print, text: &str) -> io::Result<()> {
@@ -14,18 +14,16 @@ fn number(rt: &impl Print, label: &str, n: u32, digits: usize) -> io::Result<()>
 
 fn say_joined(rt: &impl Print, p: Parts) -> io::Result<()> {
     match Identifier::join(p) {
-        Joined::Whole(i) => number(rt, "joined ", i.0, 8),
-        Joined::TooLarge => say(rt, "too large"),
+        Some(i) => number(rt, "joined ", i.0, 8),
+        None => say(rt, "too large"),
     }
 }
 
 fn say_parts(rt: &impl Print, p: Parts) -> io::Result<()> {
-    number(rt, ": fast ", p.fast, 1)?;
-    number(rt, ", wide ", p.wide, 1)?;
-    number(rt, ", owner ", p.owner, 2)?;
-    number(rt, ", function ", p.function, 4)?;
-    number(rt, ", hint ", p.hint, 1)?;
-    number(rt, ", reserved ", p.reserved, 2)
+    print!(rt;
+        ": fast {:x}, wide {:x}, owner {:02x}, function {:04x}, hint {:x}, reserved {:02x}",
+        p.fast, p.wide, p.owner, p.function, p.hint, p.reserved
+    )
 }
 
 // The parts of the identifier in x0, its key, and what the parts make when joined.
@@ -44,27 +42,9 @@ fn show(rt: &impl Print, x0: u64) -> io::Result<()> {
     }
 }
 
-// What becomes of these parts.
-fn join(
-    rt: &impl Print,
-    fast: u32,
-    wide: u32,
-    owner: u32,
-    function: u32,
-    hint: u32,
-    reserved: u32,
-) -> io::Result<()> {
-    say_joined(
-        rt,
-        Parts {
-            fast,
-            wide,
-            owner,
-            function,
-            hint,
-            reserved,
-        },
-    )?;
+// What becomes of some parts.
+fn join(rt: &impl Print, p: Parts) -> io::Result<()> {
+    say_joined(rt, p)?;
     say(rt, "\n")
 }
 
@@ -76,51 +56,65 @@ fn read(rt: &impl Print, x0: u64, argument: u64) -> io::Result<()> {
 }
 
 // The table of calls.
-fn calls(rt: &impl Print) -> io::Result<()> {
-    show(rt, 0x80000000)?;
-    show(rt, 0x80000001)?;
-    show(rt, 0x84000000)?;
-    show(rt, 0x84000002)?;
-    show(rt, 0x84000003)?;
-    show(rt, 0xC4000003)?;
-    show(rt, 0x84000004)?;
-    show(rt, 0xC4000004)?;
-    show(rt, 0x8400000A)?;
-    show(rt, 0xC40001B0)?;
-    show(rt, 0xC40001B1)?;
-    show(rt, 0xC2000010)?;
-    show(rt, 0xC2000011)?;
-    show(rt, 0xC2000012)?;
-    show(rt, 0xC2000020)?;
-    show(rt, 0xC2000021)?;
-    show(rt, 0xC2000022)?;
-    show(rt, 0xC2000030)
-}
+static CALLS: [u64; 18] = [
+    0x80000000, 0x80000001, 0x84000000, 0x84000002, 0x84000003, 0xC4000003, 0x84000004, 0xC4000004,
+    0x8400000A, 0xC40001B0, 0xC40001B1, 0xC2000010, 0xC2000011, 0xC2000012, 0xC2000020, 0xC2000021,
+    0xC2000022, 0xC2000030,
+];
 
 // P3, both of P4, and P5; the bit above the hint in a yielding call; and an x0 whose upper half does not count.
-fn edges(rt: &impl Print) -> io::Result<()> {
-    show(rt, 0xF2000000)?;
-    show(rt, 0x84010000)?;
-    show(rt, 0x84020000)?;
-    show(rt, 0x04010000)?;
-    show(rt, 0x04020000)?;
-    show(rt, 0x1234567884000000)
-}
+static EDGES: [u64; 6] = [
+    0xF2000000,
+    0x84010000,
+    0x84020000,
+    0x04010000,
+    0x04020000,
+    0x1234567884000000,
+];
 
-// The largest part of each field, and then each part one too large.
+// The largest part of each field.
+const LARGEST: Parts = Parts {
+    fast: 1,
+    wide: 1,
+    owner: 63,
+    function: 65535,
+    hint: 1,
+    reserved: 127,
+};
+
+// They are joined, and then again with each part one too large.
 fn joins(rt: &impl Print) -> io::Result<()> {
-    join(rt, 1, 1, 63, 65535, 1, 127)?;
-    join(rt, 2, 1, 63, 65535, 1, 127)?;
-    join(rt, 1, 2, 63, 65535, 1, 127)?;
-    join(rt, 1, 1, 64, 65535, 1, 127)?;
-    join(rt, 1, 1, 63, 65536, 1, 127)?;
-    join(rt, 1, 1, 63, 65535, 2, 127)?;
-    join(rt, 1, 1, 63, 65535, 1, 128)
+    join(rt, LARGEST)?;
+    join(rt, Parts { fast: 2, ..LARGEST })?;
+    join(rt, Parts { wide: 2, ..LARGEST })?;
+    join(
+        rt,
+        Parts {
+            owner: 64,
+            ..LARGEST
+        },
+    )?;
+    join(
+        rt,
+        Parts {
+            function: 65536,
+            ..LARGEST
+        },
+    )?;
+    join(rt, Parts { hint: 2, ..LARGEST })?;
+    join(
+        rt,
+        Parts {
+            reserved: 128,
+            ..LARGEST
+        },
+    )
 }
 
 fn main(rt: HostRuntime) -> io::Result<()> {
-    calls(&rt)?;
-    edges(&rt)?;
+    for x0 in CALLS.iter().chain(&EDGES) {
+        show(&rt, *x0)?;
+    }
     joins(&rt)?;
     // a 32-bit call and a 64-bit call
     read(&rt, 0x84000003, 0x1234567890ABCDEF)?;

@@ -15,6 +15,8 @@ pub fn read_full(input: &mut impl Read, buf: &mut [u8]) -> io::Result<usize>
     ensures { IfOk result (λ n. n ≤ length buf.new) }
 {
     let mut done = 0;
+
+    // no plainer: no range and no iterator counts this, since each step is as long as what a read gave
     while done < buf.len() {
         let n = input.read(&mut buf[done..])?;
         if n == 0 {

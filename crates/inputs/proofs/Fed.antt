@@ -1,11 +1,13 @@
 -- How far one feed goes: line by line, while there is room for the longest answer, up to a line that lacks its newline.
-use Rattle.std.specs.Prelude.{◌≡◌}
+use Rattle.std.specs.Prelude.{◌≡◌, None, Option, Some}
 use Rattle.std.proofs.Math.Path.{refl, sym, ap}
 use Rattle.std.proofs.Common.{◌∙◌, lt-ltb, le-ltb}
 use mathlib.Core.List.{List, []}
 use Prim.Native.Nat.{ℕ, zero, suc, ◌-◌, ◌≤◌, ◌<◌}
 use native.Mathlib.Omega.{arith}
 use Rattle.std.proofs.Math.ListN.{length}
+use Rattle.lines.specs.Next.{Line}
+use Rattle.lines.specs.declared.Next.{Next}
 use Rattle.rules.specs.Choice.{pick, pick_yes, pick_no, either}
 use Rattle.tools.specs.Laid.{put}
 use Rattle.parsing.specs.Frame.{is_call}
@@ -13,8 +15,6 @@ use Rattle.text.specs.Text.{longest}
 use Rattle.lines.specs.Lines.{end_of, line_at, lined, next_of, end_from}
 use Rattle.lines.specs.Input.{reading_of, next_found, next_unfinished, next_inside}
 use Rattle.parsing.specs.declared.Frame.{Frame}
-use Rattle.lines.specs.declared.Next.{Next}
-use Rattle.lines.specs.declared.Next.TheVariants.{Line, Unfinished}
 use Rattle.showing.specs.declared.Reply.{Reply}
 use Rattle.frames.specs.Frames.{Machine}
 use Rattle.answering.specs.Answer.{text_of, answered, numbers_idle}
@@ -22,11 +22,11 @@ use Rattle.inputs.specs.Fed.{Stand, fed, fed_in, full, onward, place, stand, ste
 
 module _ (s : List ℕ) where
   -- ---- more lines than there are bytes make no difference
-  unfinished : (at : ℕ) → length s ≤ end_of s at → next_of s at [] ≡ (Unfinished, [])
+  unfinished : (at : ℕ) → length s ≤ end_of s at → next_of s at [] ≡ (None, [])
   unfolding next_of
   unfinished at h = pick_no _ _ _ (le-ltb (end_of s at) (length s) h)
 
-  past : (at : ℕ) → length s ≤ at → next_of s at [] ≡ (Unfinished, [])
+  past : (at : ℕ) → length s ≤ at → next_of s at [] ≡ (None, [])
   past at h = unfinished at (omega (arith, end_from s at))
 
   -- a line as it is read by itself
@@ -45,9 +45,9 @@ module _ (s : List ℕ) where
       (λ k. pick_no _ _ _ k ∙ ap (onward d (fed_in n s)) (past d.read h))
 
   same : (d : Stand) (go stop : Stand → Stand) → ((f : Frame) (after : ℕ) (xs : List ℕ) → next_of s d.read [] ≡ (Line f after, xs) → go (stepped d f after xs) ≡ stop (stepped d f after xs))
-      → (q : Next × List ℕ) → next_of s d.read [] ≡ q → onward d go q ≡ onward d stop q
-  same d go stop t (Line f after, xs) e = t f after xs e
-  same d go stop t (Unfinished, xs) e = refl
+      → (q : Option Next × List ℕ) → next_of s d.read [] ≡ q → onward d go q ≡ onward d stop q
+  same d go stop t (Some l, xs) e = t l.frame l.after xs e
+  same d go stop t (None, xs) e = refl
 
   enough : (n k : ℕ) (d : Stand) → length s - d.read ≤ n → length s - d.read ≤ k → fed_in n s d ≡ fed_in k s d
   unfolding fed_in
@@ -74,11 +74,11 @@ module _ (s : List ℕ) where
     fed_end h = sym (at_end (length s - d.read) d h)
 
     -- no newline
-    pub fed_unfinished : (k : Next) (xs ys : List ℕ) → (k, ys) ≡ next_of s d.read xs → k ≡ Unfinished → d ≡ fed s d
+    pub fed_unfinished : (k : Option Next) (xs ys : List ℕ) → (k, ys) ≡ next_of s d.read xs → k ≡ None → d ≡ fed s d
     unfolding fed fed_in
     fed_unfinished k xs ys e is = sym (still (length s - d.read))
       where
-        none : next_of s d.read [] ≡ (Unfinished, [])
+        none : next_of s d.read [] ≡ (None, [])
         none = unfinished d.read (next_unfinished s xs ys d.read (rw is at e)).0
 
         still : (n : ℕ) → fed_in n s d ≡ d
@@ -86,7 +86,7 @@ module _ (s : List ℕ) where
         still (suc n) = either (full d) (λ y. pick_yes _ _ _ y) (λ k. pick_no _ _ _ k ∙ ap (onward d (fed_in n s)) none)
 
     -- ---- and where it goes on
-    pub fed_line : (k : Next) (xs ys : List ℕ) → (k, ys) ≡ next_of s d.read xs → (f : Frame) (after : ℕ) → k ≡ Line f after → longest ≤ length d.out - d.done
+    pub fed_line : (k : Option Next) (xs ys : List ℕ) → (k, ys) ≡ next_of s d.read xs → (f : Frame) (after : ℕ) → k ≡ Line f after → longest ≤ length d.out - d.done
         → fed s (stepped d f after ys) ≡ fed s d
     unfolding fed fed_in
     fed_line k xs ys e f after is h =
@@ -107,8 +107,8 @@ module _ (s : List ℕ) (m : Machine) (at done : ℕ) (out : List ℕ) (o : Stan
   pub stops_end : length s ≤ at → stand m at done out ≡ o
   stops_end h = fed_end s (stand m at done out) h ∙ inv
 
-  module _ (k : Next) (xs ys : List ℕ) (e : (k, ys) ≡ next_of s at xs) where
-    pub stops_unfinished : k ≡ Unfinished → stand m at done out ≡ o
+  module _ (k : Option Next) (xs ys : List ℕ) (e : (k, ys) ≡ next_of s at xs) where
+    pub stops_unfinished : k ≡ None → stand m at done out ≡ o
     stops_unfinished is = fed_unfinished s (stand m at done out) k xs ys e is ∙ inv
 
     pub goes_on : (f : Frame) (after : ℕ) → k ≡ Line f after → longest ≤ length out - done → (m' : Machine) (out' : List ℕ) (done' : ℕ)

@@ -1,20 +1,20 @@
 -- How far a feed goes that prints nothing, and what it leaves, whatever is kept and whatever a line means: all complete lines are taken.
 use Rattle.std.proofs.Math.Path.{◌≡◌, ap}
-use Rattle.std.specs.Prelude.{take}
+use Rattle.std.specs.Prelude.{take, None, Option}
 use Rattle.std.proofs.Common.{◌∙◌}
 use mathlib.Core.List.{List, [], ◌∷◌, ◌++◌}
 use Prim.Native.Nat.{ℕ, ◌+◌, ◌-◌, ◌≤◌}
 use native.Mathlib.Omega.{arith}
 use Rattle.std.proofs.Math.ListN.{length, drop, length-append, length-drop}
 use Rattle.std.proofs.Math.Seq.{length-take-le}
+use Rattle.lines.specs.Next.{Line}
+use Rattle.lines.specs.declared.Next.{Next}
 use Rattle.lines.specs.Lines.{end_of, line_at, part, next_of, line_unbroken, rest_unbroken, split_line, end_from}
 use Rattle.lines.specs.Parts.{complete}
 use Rattle.lines.specs.Input.{next_found, next_unfinished}
 use Rattle.lines.specs.Front.{fronted}
 use Rattle.lines.specs.Close.{closing}
 use Rattle.parsing.specs.declared.Frame.{Frame}
-use Rattle.lines.specs.declared.Next.{Next}
-use Rattle.lines.specs.declared.Next.TheVariants.{Line, Unfinished}
 use Rattle.inputs.specs.Cut.{unbroken_so, none_complete}
 use Rattle.inputs.specs.Folds.{left, left_none, left_first}
 use Rattle.inputs.specs.Waiting.{heard, front, taken}
@@ -34,7 +34,7 @@ module _ {S A : Type 0} (step : S → A → S) (f : List ℕ → A) where
     pub feeding_end : length s ≤ at → (at, a) ≡ feeding step f a at s
     feeding_end h = stops_so (omega (arith, end_from s at))
 
-    pub feeding_stop : (k : Next) (xs ys : List ℕ) → (k, ys) ≡ next_of s at xs → k ≡ Unfinished → (at, a) ≡ feeding step f a at s
+    pub feeding_stop : (k : Option Next) (xs ys : List ℕ) → (k, ys) ≡ next_of s at xs → k ≡ None → (at, a) ≡ feeding step f a at s
     feeding_stop k xs ys e is = stops_so (next_unfinished s xs ys at (rw is at e)).0
 
     pub feeding_line : (fr : Frame) (xs ys : List ℕ) (after : ℕ) → (Line fr after, ys) ≡ next_of s at xs → feeding step f (step a (f (line_at s at))) after s ≡ feeding step f a at s

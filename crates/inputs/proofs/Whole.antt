@@ -8,6 +8,7 @@ use native.Mathlib.Omega.{arith}
 use Rattle.std.proofs.Math.ListN.{length, length-drop}
 use Rattle.std.proofs.Math.Seq.{length-take-le}
 use Rattle.std.proofs.lemmas.Bool.{eqb-false}
+use Rattle.lines.specs.Next.{Line}
 use Rattle.rules.specs.Choice.{chosen, either}
 use Rattle.tools.specs.Laid.{put, laid, put_fits, laid_append, length_laid}
 use Rattle.parsing.specs.Frame.{is_call, no_call, parsed_frame}
@@ -17,7 +18,6 @@ use Rattle.lines.specs.Lines.{end_of, line_at, next_of, Unbroken, line_unbroken,
 use Rattle.lines.specs.Input.{reading, readings, reading_of, Found, next_found, next_unfinished, next_inside}
 use Rattle.lines.specs.Parts.{complete}
 use Rattle.parsing.specs.declared.Frame.{Frame}
-use Rattle.lines.specs.declared.Next.TheVariants.{Line}
 use Rattle.frames.specs.Frames.{Machine, framed}
 use Rattle.answering.specs.Answer.{text_of, numbers_idle, text_short, text_told}
 use Rattle.inputs.specs.Folds.{left_none, left_first, lines_left}

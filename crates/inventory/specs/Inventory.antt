@@ -1,10 +1,11 @@
 -- What there is to tell in the end: how many lines came; each core; the pages in ranges of one owner and one line; each world's mappings.
-use Rattle.std.specs.Prelude.{◌≡◌, Bool, true, false, not, ◌||◌, List, ℕ, ◌+◌, ◌-◌, ◌*◌, ◌/◌, ◌%◌, ◌≤◌, ◌<◌, ltb, eqb}
+use Rattle.std.specs.Prelude.{◌≡◌, Bool, true, false, not, ◌||◌, List, ℕ, ◌+◌, ◌-◌, ◌*◌, ◌/◌, ◌%◌, ◌≤◌, ◌<◌, ltb, eqb, max, Option, Some, None}
 use Rattle.std.proofs.Math.Path.{refl}
-use Rattle.std.proofs.Common.{sym, ◌∙◌, arith, lt-ltb, le-ltb, eq-eqb, ne_eqb}
-use Rattle.rules.specs.Choice.{pick, picked, passed}
+use Rattle.std.proofs.Common.{sym, ◌∙◌, arith, lt-ltb, le-ltb, ltb-true, ltb-false, eq-eqb, ne_eqb}
+use Rattle.std.specs.Option.{MatchOption, unwrap_or}
+use Rattle.rules.specs.Choice.{pick, picked, passed, either, yes_or_no}
 use Rattle.rules.specs.Sizes.{worlds, most_mappings}
-use Rattle.tools.specs.Search.{first, first_ends}
+use Rattle.tools.specs.Search.{first, first_ends, first_is}
 use Rattle.pages.specs.Owners.{owner}
 use Rattle.pages.specs.declared.Window.{Window}
 use Rattle.mapping.specs.Lists.{place}
@@ -70,11 +71,34 @@ is_end (Held i) = false
 is_end NoMappings = false
 is_end End = true
 
+-- ---- how the code searches: what `find` gave over the numbers from a on and before b
+module _ (p : ℕ → Bool) (a b : ℕ) where
+  abbrev pub Found : Option ℕ → Type 0
+  Found o = MatchOption o ((k : ℕ) → a ≤ k → k < b → p k ≡ false) (λ i. (a ≤ i) × (i < b) × (p i ≡ true) × ((k : ℕ) → a ≤ k → k < i → p k ≡ false))
+
+  pub found : (o : Option ℕ) → Found o → (r d : ℕ) → r ≡ unwrap_or o d → d ≡ max a b → r ≡ first p a (b - a)
+  found None h r d e m =
+      let f = first_is p a (b - a) in
+      let k = first p a (b - a) in
+      either (ltb k b)
+      (λ y. let l = ltb-true k b y in absurd (yes_or_no (p k) (f.passes (omega (arith, f.low))) (h k f.low l)))
+      (λ n. omega (arith, ltb-false k b n, f.low, f.high))
+  found (Some i) h r d e m =
+      let f = first_is p a (b - a) in
+      let k = first p a (b - a) in
+      either (ltb k i)
+      (λ y. let l = ltb-true k i y in absurd (yes_or_no (p k) (f.passes (omega (arith, h.1))) (h.3 k f.low l)))
+      (λ n.
+      let g = ltb-false k i n in
+      either (ltb i k)
+      (λ y. absurd (yes_or_no (p i) h.2 (f.before i h.0 (ltb-true i k y))))
+      (λ m. omega (arith, ltb-false i k m)))
+
 -- ---- how the code's branches meet these
 module _ (o t : List ℕ) (u line page : ℕ) where
-  pub unlike_owner : (a : ℕ) → a ≡ owner o page → (a ≡ u → ⊥) → true ≡ unlike o t u line page
+  pub unlike_owner : (a : ℕ) → a ≡ owner o page → (a ≡ u → ⊥) → not (eqb a u) ≡ unlike o t u line page
   unfolding unlike
-  unlike_owner a e h = rw (ne_eqb (owner o page) u (λ z. h (e ∙ z)))
+  unlike_owner a e h = let n = ne_eqb (owner o page) u (λ z. h (e ∙ z)) in rw (e, n)
 
   pub unlike_line : (a b : ℕ) → a ≡ owner o page → a ≡ u → b ≡ origin t page → not (eqb b line) ≡ unlike o t u line page
   unfolding unlike
@@ -82,23 +106,14 @@ module _ (o t : List ℕ) (u line page : ℕ) where
 
 pub ruleset unlikes = (unlike_owner, unlike_line)
 
-module _ (o t : List ℕ) (pages page : ℕ) where
-  pub end_none : pages < page → page ≡ range_end o t pages page
-  unfolding range_end
-  end_none h = first_ends _ page (pages - page) _ refl (omega arith)
-
-  pub end_starts : (a b : ℕ) → a ≡ owner o page → b ≡ origin t page → range_end o t pages page ≡ first (unlike o t a b) page (pages - page)
-  unfolding range_end
-  end_starts a b e f = rw (e, f)
+pub end_starts : (o t : List ℕ) (pages page a b r : ℕ) → a ≡ owner o page → b ≡ origin t page → r ≡ first (unlike o t a b) page (pages - page) → r ≡ range_end o t pages page
+unfolding range_end
+end_starts o t pages page a b r e f h = h ∙ rw (e, f)
 
 module _ (l : List ℕ) (i : ℕ) where
   pub held_is : (m : Mapping) → m ≡ place l (i / most_mappings) (i % most_mappings) → not (eqb m.size 0) ≡ is_held l i
   unfolding is_held
   held_is m e = rw e
-
-  pub from_starts : held_from l i ≡ first (is_held l) i (places - i)
-  unfolding held_from
-  from_starts = refl
 
   pub from_none : places < i → i ≡ held_from l i
   unfolding held_from
@@ -180,3 +195,5 @@ module _ (s o t l : List ℕ) (x r : Thing) where
   next_end e h = rw e h
 
 pub ruleset nexts = (next_core, next_range, next_held, next_head, next_alone, next_none, next_end)
+
+pub ruleset laws = (unlike_owner, unlike_line, held_is, helds, things, nexts)

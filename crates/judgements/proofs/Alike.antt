@@ -1,29 +1,26 @@
 -- One call judged with two lists of the caller's own mappings. A judgement owes all to that list in a call on it, in a gift of pages whether it is granted, and else nothing.
-use Rattle.std.specs.Prelude.{◌≡◌, false, ℕ}
+use Rattle.std.specs.Prelude.{◌≡◌, false, ℕ, None, Option, Result, Some}
 use Rattle.std.proofs.Math.Path.{refl}
 use Rattle.std.proofs.Common.{ap, inl, inr, eqb-true}
 use mathlib.Core.List.{List}
+use Rattle.rules.specs.declared.Reason.{Reason}
 use Rattle.rules.specs.Choice.{chosen_two, yes_or_no}
 use Rattle.rules.specs.Tests.{sieved_two}
 use Rattle.identifiers.specs.declared.Parts.{Parts}
-use Rattle.ledger.specs.declared.Lookup.{Lookup}
-use Rattle.ledger.specs.declared.Lookup.TheVariants.{Handler, Nobody}
 use Rattle.ranges.specs.declared.Mapping.{Mapping}
 use Rattle.transfers.specs.Granted.{OneVerdict, verdict_same}
-use Rattle.transfers.specs.declared.Verdict.{Verdict as Moving}
 use Rattle.judgements.specs.Names.{map_pages, unmap_pages, where_leads}
 use Rattle.judgements.specs.Judge.{HandlerSight, handler_sight, sighted, denied, moving, transferring, board, by_number, by_row, by_handler, found, judged_by}
 use Rattle.judgements.specs.declared.Answer.TheVariants as Answer
 use Rattle.judgements.specs.declared.Args.{Args}
 use Rattle.judgements.specs.declared.Caller.{Caller}
 use Rattle.judgements.specs.declared.Transfer.{Transfer}
-use Rattle.judgements.specs.declared.Row.{Row}
 use Rattle.judgements.specs.Alike.{GivesPages, Level, OnList, Same, row_by}
 
-moving_same : (count to : ℕ) (v u : Moving) → OneVerdict v u → Level (moving v count to) (moving u count to) → moving v count to ≡ moving u count to
+moving_same : (count to : ℕ) (v u : Result ℕ Reason) → OneVerdict v u → Level (moving v count to) (moving u count to) → moving v count to ≡ moving u count to
 unfolding moving
 moving_same count to v u one l =
-    ap (λ (x : Moving). moving x count to) (one (λ first r e f. l.0 r (rw e) (rw f)) (λ first r e f. l.1 r (rw e) (rw f)))
+    ap (λ (x : Result ℕ Reason). moving x count to) (one (λ first r e f. l.0 r (rw e) (rw f)) (λ first r e f. l.1 r (rw e) (rw f)))
 
 module _ (v : Caller) (p o : List ℕ) (m n theirs : List Mapping) (a : Args) (k : ℕ) (off : OnList k → ⊥) where
   abbrev one : HandlerSight
@@ -54,13 +51,13 @@ module _ (v : Caller) (p o : List ℕ) (m n theirs : List Mapping) (a : Args) (k
   handlers_same : (h : ℕ) → Same k (by_handler one a k h) (by_handler other a k h)
   unfolding by_row
   handlers_same h =
-      row_by a h k (λ (r : Row). Same k (by_row one a k h r) (by_row other a k h r)) (numbers_same h)
+      row_by a h k (λ (r : Option Transfer). Same k (by_row one a k h r) (by_row other a k h r)) (numbers_same h)
       (λ t e g. transfers_same t (λ f. absurd (yes_or_no t.takes e f))) (λ t e g. transfers_same t (λ f. g))
 
-  lookups_same : (l : Lookup) → Same k (found one a k l) (found other a k l)
+  lookups_same : (l : Option ℕ) → Same k (found one a k l) (found other a k l)
   unfolding found
-  lookups_same Nobody = λ l. refl
-  lookups_same (Handler h) = handlers_same h
+  lookups_same None = λ l. refl
+  lookups_same (Some h) = handlers_same h
 
 -- The judgement of a call that is not on the caller's own list owes to that list only whether a gift of pages is granted.
 pub judged_same : (l : List ℕ) (v : Caller) (p o : List ℕ) (m n theirs : List Mapping) (q : Parts) (a : Args) (k : ℕ) → (OnList k → ⊥)

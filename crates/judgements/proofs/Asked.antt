@@ -1,10 +1,15 @@
 -- Nothing is done but what a call asks for: each deed by the handler that the call reaches, its identifier and its arguments.
-use Rattle.std.specs.Prelude.{◌≡◌, Bool, List, ◌⊎◌}
+use Rattle.std.specs.Prelude.{◌≡◌, Bool, List, ◌⊎◌, Err, None, Ok, Option, Result, Some}
 use Rattle.std.proofs.Math.Path.{refl}
 use Rattle.std.proofs.Common.{sym, subst, inl, inr, arith}
 use Rattle.std.proofs.Math.Bool.{true}
 use Prim.Native.Nat.{ℕ}
 use borrow.Author.Tests.{eqb-true, eqb-false, ltb-false, not-false}
+use Rattle.mapping.specs.Leads.{To}
+use Rattle.mapping.specs.declared.Lead.{Lead}
+use Rattle.mapping.specs.declared.Grant.TheVariants as Grant
+use Rattle.mapping.specs.declared.Grant.{Grant}
+use Rattle.judgements.specs.declared.Transfer.{Transfer}
 use Rattle.rules.specs.Choice.{pick_yes, pick_no, chosen}
 use Rattle.rules.specs.Choice as Choice
 use Rattle.rules.specs.Tests.{Test, sieved, goes, ends, Clear}
@@ -12,17 +17,7 @@ use Rattle.rules.specs.declared.Reason.{Reason}
 use Rattle.rules.specs.declared.Reason.TheVariants as Reason
 use Rattle.identifiers.specs.Identifier.{admitted}
 use Rattle.ledger.specs.Ledger.{handler}
-use Rattle.ledger.specs.declared.Lookup.{Lookup}
-use Rattle.ledger.specs.declared.Lookup.TheVariants.{Handler, Nobody}
 use Rattle.cores.specs.declared.Power.{Power}
-use Rattle.pages.specs.declared.Place.{Place}
-use Rattle.pages.specs.declared.Place.TheVariants.{Page, Outside}
-use Rattle.mapping.specs.declared.Verdict.{Verdict}
-use Rattle.mapping.specs.declared.Verdict.TheVariants as Verdict
-use Rattle.mapping.specs.declared.Lead.{Lead}
-use Rattle.mapping.specs.declared.Lead.TheVariants as Lead
-use Rattle.transfers.specs.declared.Verdict.{Verdict as Moving}
-use Rattle.transfers.specs.declared.Verdict.TheVariants as Moving
 use Rattle.rules.specs.Sizes.{secure, normal, realm}
 use Rattle.judgements.specs.Names.{core_off, core_start, core_start_wide, realm_first, realm_last, realm_finish, map_pages, unmap_pages, where_leads, count_on, secure_finish}
 use Rattle.judgements.specs.Judge.{HandlerSight, Sight, denied, granted, tested, one_of, callers, wanted, called_by, args_of, affirmed, featuring, architecture, starting, state_of, telling_state, going_off, versioning, power_featuring, row_of, moving, transferring, owning, mapping, unmapping, leading, board, handing, finishing, handing_to_realm, realm_call, standard, trusted, by_number, by_row, by_handler, found, judged_by, judged}
@@ -32,8 +27,6 @@ use Rattle.judgements.specs.declared.Deed.{Deed}
 use Rattle.judgements.specs.declared.Deed.TheVariants.{Nothing, Move, Map, Unmap, Start, GoOff, HandOver, Finish}
 use Rattle.judgements.specs.declared.Judged.{Judged}
 use Rattle.judgements.specs.declared.Args.{Args}
-use Rattle.judgements.specs.declared.Row.{Row}
-use Rattle.judgements.specs.declared.Row.TheVariants.{Is, NoTransfer}
 use Rattle.judgements.specs.Asked.{Asks, CalledFor, Finishes, HandsTo, Lies, Reached, Tells, by_realm, by_row_lem, by_secure, key, lies, to_realm, to_secure}
 
 -- ---- each call
@@ -53,15 +46,15 @@ module _ (s : HandlerSight) (a : Args) (h key : ℕ) where
   architectures =
       chosen For _ _ _ (λ e. tt) (λ e. chosen For _ _ _ (λ f. affirming _) (λ f. tt))
 
-  transfers : (v : Moving) (start count to : ℕ) → Lies s.caller.window v start count → Asks s.caller a h key start count to → For (moving v count to)
+  transfers : (v : Result ℕ Reason) (start count to : ℕ) → Lies s.caller.window v start count → Asks s.caller a h key start count to → For (moving v count to)
   unfolding moving
-  transfers (Moving.Granted first) start count to l k = (record { start = start; asks = k; lies = l first refl }, refl)
-  transfers (Moving.No r) start count to l k = tt
+  transfers (Ok first) start count to l k = (record { start = start; asks = k; lies = l first refl }, refl)
+  transfers (Err r) start count to l k = tt
 
-  questions : (o : List ℕ) (p : Place) (world : ℕ) → For (owning o p world)
+  questions : (o : List ℕ) (p : Option ℕ) (world : ℕ) → For (owning o p world)
   unfolding owning
-  questions o (Page page) world = tt
-  questions o Outside world = tt
+  questions o (Some page) world = tt
+  questions o None world = tt
 
   states : (p : Power) → For (granted (state_of p) Nothing)
   unfolding state_of
@@ -77,16 +70,16 @@ module _ (s : HandlerSight) (a : Args) (h key : ℕ) where
   finishes from k = testing _ _ (λ c. (subst (λ (w : ℕ). Finishes h key w) (sym (eqb-true s.caller.world from (not-false _ c.0))) k, refl))
 
   module _ (is : h ≡ 1) where
-    mappings : (v : Verdict) → key ≡ map_pages → For (mapping v (wanted a))
+    mappings : (v : Result Grant Reason) → key ≡ map_pages → For (mapping v (wanted a))
     unfolding mapping
-    mappings Verdict.Granted k = ((is, k), (refl, refl))
-    mappings Verdict.Nothing k = tt
-    mappings (Verdict.No r) k = tt
+    mappings (Ok Grant.Hold) k = ((is, k), (refl, refl))
+    mappings (Ok Grant.Nothing) k = tt
+    mappings (Err r) k = tt
 
-    leads : (l : Lead) → key ≡ where_leads → For (leading l)
+    leads : (l : Option Lead) → key ≡ where_leads → For (leading l)
     unfolding leading
-    leads (Lead.To phys attr) k = (is, k)
-    leads Lead.Nowhere k = tt
+    leads (Some d) k = (is, k)
+    leads None k = tt
 
     boards : For (board s a key)
     unfolding board unmapping
@@ -138,16 +131,16 @@ module _ (s : HandlerSight) (a : Args) (h key : ℕ) where
       (λ e. chosen For _ _ _ (λ e. trust (eqb-true h 3 e))
       (λ e. tt))))
 
-  rows : (r : Row) → row_of a h key ≡ r → For (by_row s a key h r)
+  rows : (r : Option Transfer) → row_of a h key ≡ r → For (by_row s a key h r)
   unfolding by_row transferring
-  rows (Is t) e =
+  rows (Some t) e =
       testing _ _ (λ c. chosen For t.takes _ _
       (λ y. transfers _ a.x1 t.count s.caller.world (lies _ _ _ _ _ _) (subst To (pick_yes _ _ _ y) (by_row_lem t e)))
       (λ n. transfers _ a.x1 t.count normal (lies _ _ _ _ _ _) (subst To (pick_no _ _ _ n) (by_row_lem t e))))
     where
       To : ℕ → Type 0
       To to = Asks s.caller a h key a.x1 t.count to
-  rows NoTransfer e = numbers
+  rows None e = numbers
 
   handlers : For (by_handler s a key h)
   handlers = rows (row_of a h key) refl
@@ -158,15 +151,15 @@ module _ (s : Sight) (xs : List ℕ) where
 
   -- A call is refused, or judged by the handler that it reaches.
   pub judged_by_lem : (P : Judged → Type 0) → ((r : Reason) → P (denied r))
-      → ((h : ℕ) → admitted (called_by xs) ≡ true → handler s.ledger (called_by xs).fast (called_by xs).owner ≡ Handler h → P (by_handler s.inner (args_of (called_by xs) xs) (key xs) h))
+      → ((h : ℕ) → admitted (called_by xs) ≡ true → handler s.ledger (called_by xs).fast (called_by xs).owner ≡ Some h → P (by_handler s.inner (args_of (called_by xs) xs) (key xs) h))
       → P (judged s xs)
   unfolding judged judged_by found Clear
   judged_by_lem P against known = sieved P denied _ _ against (λ c. by_lookup (handler s.ledger (called_by xs).fast (called_by xs).owner) refl (not-false _ c.1.0))
     where
-      by_lookup : (l : Lookup) → handler s.ledger (called_by xs).fast (called_by xs).owner ≡ l → admitted (called_by xs) ≡ true
+      by_lookup : (l : Option ℕ) → handler s.ledger (called_by xs).fast (called_by xs).owner ≡ l → admitted (called_by xs) ≡ true
           → P (found s.inner (args_of (called_by xs) xs) (key xs) l)
-      by_lookup Nobody e ok = against Reason.Unserved
-      by_lookup (Handler h) e ok = known h ok e
+      by_lookup None e ok = against Reason.Unserved
+      by_lookup (Some h) e ok = known h ok e
 
   -- Nothing is done but what the call asks for.
   pub called_for : (d : Deed) → (d ≡ Nothing → ⊥) → (judged s xs).deed ≡ d → Reached s xs (λ h. CalledFor s.inner.caller (args_of (called_by xs) xs) h (key xs) d (judged s xs).answer)

@@ -1,24 +1,21 @@
 -- And what is asked for is done, or refused: a judgement of such a call by its two outcomes.
 use Rattle.std.proofs.Math.Path.{◌≡◌, refl}
 use Rattle.std.proofs.Common.{sym, ap, ◌∙◌, arith}
-use Rattle.std.specs.Prelude.{Bool, true, false, List, [], ◌∷◌, ◌⊎◌, ℕ}
+use Rattle.std.specs.Prelude.{Bool, true, false, List, [], ◌∷◌, ◌⊎◌, ℕ, Err, None, Ok, Option, Result, Some}
 use Rattle.std.proofs.Math.Logic.{inl, inr}
 use borrow.Author.Tests.{ne_eqb, le-ltb}
+use Rattle.mapping.specs.Leads.{To}
+use Rattle.mapping.specs.declared.Lead.{Lead}
+use Rattle.mapping.specs.declared.Grant.TheVariants as Grant
+use Rattle.mapping.specs.declared.Grant.{Grant}
 use Rattle.rules.specs.Choice.{pick, pick_no}
 use Rattle.rules.specs.Tests.{Test, sieve, sieved}
 use Rattle.rules.specs.declared.Reason.{Reason}
 use Rattle.rules.specs.declared.Reason.TheVariants as Reason
-use Rattle.ledger.specs.declared.Lookup.TheVariants.{Handler}
 use Rattle.cores.specs.Cores.{on_count}
 use Rattle.pages.specs.declared.Window.{Window}
 use Rattle.mapping.specs.Mapping.{map_tests, map_verdict, lead_of}
 use Rattle.ranges.specs.declared.Mapping.{Mapping}
-use Rattle.mapping.specs.declared.Verdict.{Verdict}
-use Rattle.mapping.specs.declared.Verdict.TheVariants as Verdict
-use Rattle.mapping.specs.declared.Lead.{Lead}
-use Rattle.mapping.specs.declared.Lead.TheVariants as Lead
-use Rattle.transfers.specs.declared.Verdict.{Verdict as Moving}
-use Rattle.transfers.specs.declared.Verdict.TheVariants as Moving
 use Rattle.rules.specs.Sizes.{normal}
 use Rattle.judgements.specs.Names.{version, features, power_version, core_off, core_start, core_start_wide, core_state, core_state_wide, power_features, granule_to_realm, granule_to_normal, realm_first, realm_last, realm_finish, map_pages, unmap_pages, where_leads, count_on, secure_finish}
 use Rattle.judgements.specs.Judge.{HandlerSight, Sight, denied, tested, one_of, callers, wanted, called_by, args_of, asked, affirmed, featuring, versioning, power_featuring, architecture, starting, going_off, moving, row_in, transferring, by_number, by_row, mapping, unmapping, leading, board, handing, finishing, handing_to_realm, realm_call, standard, trusted, by_handler, found, judged}
@@ -42,17 +39,17 @@ module _ (a : Answer) (P : Deed → Type 0) where
   pub reached_decided : (s : Sight) (xs : List ℕ) → Reached s xs (λ h. Decided a P (by_handler s.inner (args_of (called_by xs) xs) (key xs) h)) → Decided a P (judged s xs)
   reached_decided s xs r =
       judged_by_lem s xs (Decided a P) (λ q. refused q refl)
-      (λ h ok e. let k : Handler h ≡ Handler r.number = sym e ∙ r.reached in let n : h ≡ r.number = cc in rw n r.so)
+      (λ h ok e. let k : Some h ≡ Some r.number = sym e ∙ r.reached in let n : h ≡ r.number = cc in rw n r.so)
 
 -- ---- a transfer
 module _ (w : Window) (start count to : ℕ) where
-  moving_decided : (v : Moving) → Lies w v start count → Decided Answer.Done (MovesRun w start count to) (moving v count to)
+  moving_decided : (v : Result ℕ Reason) → Lies w v start count → Decided Answer.Done (MovesRun w start count to) (moving v count to)
   unfolding moving
-  moving_decided (Moving.Granted first) l = done refl (record { first = first; lies = l first refl; moves = refl })
-  moving_decided (Moving.No r) l = refused r refl
+  moving_decided (Ok first) l = done refl (record { first = first; lies = l first refl; moves = refl })
+  moving_decided (Err r) l = refused r refl
 
 -- to the one or to the other
-either_way : (w : Window) (start count one other : ℕ) (b : Bool) (u v : Moving) → Lies w u start count → Lies w v start count
+either_way : (w : Window) (start count one other : ℕ) (b : Bool) (u v : Result ℕ Reason) → Lies w u start count → Lies w v start count
     → Decided Answer.Done (MovesRun w start count (pick b one other)) (pick b (moving u count one) (moving v count other))
 unfolding pick
 either_way w start count one other true u v l m = moving_decided w start count one u l
@@ -64,17 +61,17 @@ module _ (s : HandlerSight) (a : Args) where
   asks_decided (by_row_lem t e) = rw e (tested_decided _ _ _ _ (either_way _ _ _ _ _ t.takes _ _ (lies _ _ _ _ _ _) (lies _ _ _ _ _ _)))
 
   -- ---- a mapping of some size, and its end
-  mapping_decided : (v : Verdict) (m : Mapping) → (v ≡ Verdict.Nothing → ⊥) → Decided Answer.Done (λ (d : Deed). d ≡ Map m) (mapping v m)
+  mapping_decided : (v : Result Grant Reason) (m : Mapping) → (v ≡ (Ok Grant.Nothing) → ⊥) → Decided Answer.Done (λ (d : Deed). d ≡ Map m) (mapping v m)
   unfolding mapping
-  mapping_decided Verdict.Granted m n = done refl refl
-  mapping_decided Verdict.Nothing m n = absurd (n refl)
-  mapping_decided (Verdict.No r) m n = refused r refl
+  mapping_decided (Ok Grant.Hold) m n = done refl refl
+  mapping_decided (Ok Grant.Nothing) m n = absurd (n refl)
+  mapping_decided (Err r) m n = refused r refl
 
   -- only a mapping of size 0 is nothing
-  some_verdict : (l : List Mapping) (o : List ℕ) (w : Window) (world : ℕ) (m : Mapping) → (m.size ≡ 0 → ⊥) → map_verdict l o w world m ≡ Verdict.Nothing → ⊥
+  some_verdict : (l : List Mapping) (o : List ℕ) (w : Window) (world : ℕ) (m : Mapping) → (m.size ≡ 0 → ⊥) → map_verdict l o w world m ≡ (Ok Grant.Nothing) → ⊥
   unfolding map_verdict
   some_verdict l o w world m n e =
-      sieved (λ (v : Verdict). v ≡ Verdict.Nothing → ⊥) Verdict.No (map_tests l o w world m) Verdict.Granted
+      sieved (λ (v : Result Grant Reason). v ≡ (Ok Grant.Nothing) → ⊥) Err (map_tests l o w world m) (Ok Grant.Hold)
       (λ r k. let z : ◌≡◌ {A = ℕ} 0 1 = cc in omega arith) (λ c k. let z : ◌≡◌ {A = ℕ} 0 1 = cc in omega arith)
       (sym (pick_no _ _ _ (ne_eqb m.size 0 n)) ∙ e)
 
@@ -86,10 +83,10 @@ module _ (s : HandlerSight) (a : Args) where
   unfolding row_in by_row by_number board unmapping pick
   unmap_decided h k is = rw (is.0, is.1) (tested_decided _ _ _ _ (done refl refl))
 
-  leading_tells : (l : Lead) → TellsLead l (leading l)
+  leading_tells : (l : Option Lead) → TellsLead l (leading l)
   unfolding leading
-  leading_tells (Lead.To phys attr) = leads phys attr refl refl
-  leading_tells Lead.Nowhere = leads_not Reason.Nowhere refl
+  leading_tells (Some d) = leads d.phys d.attr refl refl
+  leading_tells None = leads_not Reason.Nowhere refl
 
   where_tells : (h k : ℕ) → (h ≡ 1) × (k ≡ where_leads) → TellsLead (lead_of s.own a.x1) (by_handler s a k h)
   unfolding row_in by_row by_number board pick
@@ -180,7 +177,7 @@ module _ (s : Sight) (xs : List ℕ) where
   pub asked_where : Reached s xs (λ h. (h ≡ 1) × (key xs ≡ where_leads)) → TellsLead (lead_of s.inner.own args.x1) (judged s xs)
   asked_where r =
       judged_by_lem s xs (TellsLead (lead_of s.inner.own args.x1)) (λ q. leads_not q refl)
-      (λ h ok e. let k : Handler h ≡ Handler r.number = sym e ∙ r.reached in let n : h ≡ r.number = cc in rw n (where_tells s.inner args r.number (key xs) r.so))
+      (λ h ok e. let k : Some h ≡ Some r.number = sym e ∙ r.reached in let n : h ≡ r.number = cc in rw n (where_tells s.inner args r.number (key xs) r.so))
 
   module _ (may : one_of s.inner.caller.world callers ≡ true) where
     pub found_at : {P : ℕ → Type 0} (r : Reached s xs P) → judged s xs ≡ by_handler s.inner args (key xs) r.number

@@ -1,20 +1,18 @@
 -- A mapping or a transfer that is asked for is judged by its verdict: where that is a grant, the call is done. And where an address leads is told.
-use Rattle.std.specs.Prelude.{◌≡◌, Bool, List, ℕ}
+use Rattle.std.specs.Prelude.{◌≡◌, Bool, List, ℕ, Err, Ok, Result}
 use Rattle.std.proofs.Common.{◌∙◌}
 use Rattle.std.proofs.Math.Path.{ap}
 use Rattle.std.proofs.Math.Bool.{true, false}
 use borrow.Author.Tests.{ne_eqb}
+use Rattle.mapping.specs.Leads.{To}
+use Rattle.mapping.specs.declared.Grant.TheVariants as Grant
+use Rattle.mapping.specs.declared.Grant.{Grant}
 use Rattle.rules.specs.Choice.{pick, pick_yes, pick_no, by}
 use Rattle.rules.specs.Tests.{sieve}
 use Rattle.rules.specs.Sizes.{normal}
 use Rattle.rules.specs.declared.Reason.{Reason}
 use Rattle.mapping.specs.Mapping.{lead_of}
-use Rattle.mapping.specs.declared.Lead.TheVariants.{To}
-use Rattle.mapping.specs.declared.Verdict.{Verdict}
-use Rattle.mapping.specs.declared.Verdict.TheVariants as Verdict
 use Rattle.transfers.specs.Transfer.{transfer_verdict}
-use Rattle.transfers.specs.declared.Verdict.{Verdict as Moving}
-use Rattle.transfers.specs.declared.Verdict.TheVariants as Moving
 use Rattle.judgements.specs.Names.{map_pages, where_leads}
 use Rattle.judgements.specs.Judge.{HandlerSight, Sight, one_of, callers, wanted, called_by, args_of, moving, row_in, transferring, by_number, by_row, mapping, leading, board, by_handler, judged}
 use Rattle.judgements.specs.Asked.{Asks, by_row_lem, key, Reached}
@@ -26,16 +24,16 @@ use Rattle.judgements.specs.declared.Args.{Args}
 use Rattle.judgements.specs.Granted.{MayMove, may_move, move_verdict, pages_both, taker, want_verdict}
 
 module _ (s : HandlerSight) (a : Args) where
-  moving_done : (v : Moving) (first count to : ℕ) → v ≡ Moving.Granted first → (moving v count to).answer ≡ Answer.Done
+  moving_done : (v : Result ℕ Reason) (first count to : ℕ) → v ≡ Ok first → (moving v count to).answer ≡ Answer.Done
   unfolding moving
   moving_done v first count to e = rw e
 
   asks_moved : (first : ℕ) {h k start count to : ℕ} → Asks s.caller a h k start count to
-      → MayMove s.caller.world k → move_verdict s start count to ≡ Moving.Granted first → (by_handler s a k h).answer ≡ Answer.Done
+      → MayMove s.caller.world k → move_verdict s start count to ≡ Ok first → (by_handler s a k h).answer ≡ Answer.Done
   unfolding by_row transferring sieve
   asks_moved first {h} {k} (by_row_lem t e) m g =
       rw (e, may_move t s.caller.world k m (λ z. pages_both a h k t z e), pick_no false)
-      (by (λ (b : Bool). move_verdict s a.x1 t.count (pick b s.caller.world normal) ≡ Moving.Granted first
+      (by (λ (b : Bool). move_verdict s a.x1 t.count (pick b s.caller.world normal) ≡ Ok first
       → (pick b (moving (transfer_verdict s.caller.window s.owners s.theirs normal a.x1 t.count) t.count s.caller.world)
       (moving (transfer_verdict s.caller.window s.owners s.own s.caller.world a.x1 t.count) t.count normal)).answer ≡ Answer.Done)
       t.takes
@@ -57,7 +55,7 @@ module _ (s : Sight) (xs : List ℕ) (may : one_of s.inner.caller.world callers 
 
   -- A transfer by a world that may ask for it is done where its verdict is a grant.
   pub asked_moved : (start count to first : ℕ) → Reached s xs (λ h. Asks s.inner.caller args h (key xs) start count to)
-      → MayMove s.inner.caller.world (key xs) → move_verdict s.inner start count to ≡ Moving.Granted first → (judged s xs).answer ≡ Answer.Done
+      → MayMove s.inner.caller.world (key xs) → move_verdict s.inner start count to ≡ Ok first → (judged s xs).answer ≡ Answer.Done
   asked_moved start count to first r m e = ap (λ (j : Judged). j.answer) (found_at s xs may r) ∙ asks_moved s.inner args first r.so m e
 
   module _ (r : Reached s xs (λ h. (h ≡ 1) × (key xs ≡ map_pages))) where
@@ -65,12 +63,12 @@ module _ (s : Sight) (xs : List ℕ) (may : one_of s.inner.caller.world callers 
     want_judged = found_at s xs may r ∙ map_judged s.inner args r.number (key xs) r.so
 
     -- So is a mapping,
-    pub asked_mapped : want_verdict s.inner args ≡ Verdict.Granted → (judged s xs).answer ≡ Answer.Done
+    pub asked_mapped : want_verdict s.inner args ≡ (Ok Grant.Hold) → (judged s xs).answer ≡ Answer.Done
     unfolding mapping
     asked_mapped e = ap (λ (j : Judged). j.answer) want_judged ∙ rw e
 
     -- and where its verdict is a refusal, the call is refused for the same reason.
-    pub asked_unmappable : (q : Reason) → want_verdict s.inner args ≡ Verdict.No q → (judged s xs).answer ≡ Answer.No q
+    pub asked_unmappable : (q : Reason) → want_verdict s.inner args ≡ Err q → (judged s xs).answer ≡ Answer.No q
     unfolding mapping
     asked_unmappable q e = ap (λ (j : Judged). j.answer) want_judged ∙ rw e
 

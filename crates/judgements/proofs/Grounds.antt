@@ -1,28 +1,22 @@
 -- What a granted deed stands on, whatever the call: one law over every judgement, by which the theorems over runs go.
-use Rattle.std.specs.Prelude.{◌≡◌, refl, Bool, true, ℕ, ◌<◌}
+use Rattle.std.specs.Prelude.{◌≡◌, refl, Bool, true, ℕ, ◌<◌, Err, None, Ok, Option, Result, Some}
 use Rattle.std.proofs.Common.{sym, subst, inl, inr, arith}
 use Rattle.std.proofs.Math.Bool.{false, not}
 use mathlib.Core.List.{List}
 use borrow.Author.Tests.{leb-false, not-false}
+use Rattle.mapping.specs.Leads.{To}
+use Rattle.mapping.specs.declared.Lead.{Lead}
+use Rattle.mapping.specs.declared.Grant.TheVariants as Grant
+use Rattle.mapping.specs.declared.Grant.{Grant}
 use Rattle.rules.specs.Choice.{chosen}
 use Rattle.rules.specs.Tests.{Test, sieved, Clear}
 use Rattle.rules.specs.declared.Reason.{Reason}
 use Rattle.rules.specs.declared.Reason.TheVariants as Reason
-use Rattle.ledger.specs.declared.Lookup.{Lookup}
-use Rattle.ledger.specs.declared.Lookup.TheVariants.{Handler, Nobody}
 use Rattle.cores.specs.Power.{is_on, is_pending}
 use Rattle.cores.specs.Cores.{power}
-use Rattle.pages.specs.declared.Place.{Place}
-use Rattle.pages.specs.declared.Place.TheVariants.{Page, Outside}
 use Rattle.ranges.specs.declared.Mapping.{Mapping}
-use Rattle.mapping.specs.declared.Verdict.{Verdict}
-use Rattle.mapping.specs.declared.Verdict.TheVariants as Verdict
-use Rattle.mapping.specs.declared.Lead.{Lead}
-use Rattle.mapping.specs.declared.Lead.TheVariants as Lead
 use Rattle.transfers.specs.Transfer.{transfer_verdict}
 use Rattle.transfers.proofs.Granted.{transfer_granted}
-use Rattle.transfers.specs.declared.Verdict.{Verdict as Moving}
-use Rattle.transfers.specs.declared.Verdict.TheVariants as Moving
 use Rattle.rules.specs.Sizes.{secure, normal, realm}
 use Rattle.judgements.specs.declared.Answer.{Answer}
 use Rattle.judgements.specs.declared.Answer.TheVariants as Answer
@@ -31,8 +25,6 @@ use Rattle.judgements.specs.declared.Deed.TheVariants.{Nothing, Move, Map, Unmap
 use Rattle.judgements.specs.declared.Judged.{Judged}
 use Rattle.judgements.specs.declared.Args.{Args}
 use Rattle.judgements.specs.declared.Transfer.{Transfer}
-use Rattle.judgements.specs.declared.Row.{Row}
-use Rattle.judgements.specs.declared.Row.TheVariants.{Is, NoTransfer}
 use Rattle.judgements.specs.Judge.{HandlerSight, Sight, denied, granted, tested, one_of, good_start, wanted, affirmed, featuring, architecture, starting, telling_state, going_off, versioning, power_featuring, may_transfer, row_of, moving, transferring, owning, mapping, unmapping, leading, board, handing, finishing, handing_to_realm, realm_call, standard, trusted, by_number, by_row, found, judged_by, judged}
 use Rattle.judgements.specs.Grounds.{Between, Calls, Maps, Moves, Takes, Unmaps, is_caller, is_taker, is_world, to_caller, to_normal}
 
@@ -117,10 +109,10 @@ module _ (s : HandlerSight) (a : Args) where
   unfolding power_featuring
   powers = testing s _ _ (λ c. affirming _)
 
-  transfers : (v : Moving) (count to : ℕ) → ((first : ℕ) → v ≡ Moving.Granted first → Moves s first count to) → Grounded s (moving v count to)
+  transfers : (v : Result ℕ Reason) (count to : ℕ) → ((first : ℕ) → v ≡ Ok first → Moves s first count to) → Grounded s (moving v count to)
   unfolding moving
-  transfers (Moving.Granted first) count to g = doing s (Move first count to) (g first refl)
-  transfers (Moving.No r) count to g = refusing s r
+  transfers (Ok first) count to g = doing s (Move first count to) (g first refl)
+  transfers (Err r) count to g = refusing s r
 
   -- a transfer, whichever way
   any_transfer : (t : Transfer) → Grounded s (transferring t s.caller s.owners s.own s.theirs a)
@@ -134,21 +126,21 @@ module _ (s : HandlerSight) (a : Args) where
           let some : t.count ≡ 0 → ⊥ = (transfer_granted _ _ _ _ _ _ first v).1 in
           record { start = a.x1; from = from; list = list; between = b; some = omega arith; caller = is_taker s.caller.world t.both may; verdict = v })
 
-  questions : (o : List ℕ) (p : Place) (world : ℕ) → Grounded s (owning o p world)
+  questions : (o : List ℕ) (p : Option ℕ) (world : ℕ) → Grounded s (owning o p world)
   unfolding owning
-  questions o (Page page) world = answering s _
-  questions o Outside world = refusing s Reason.Invalid
+  questions o (Some page) world = answering s _
+  questions o None world = refusing s Reason.Invalid
 
-  leads : (l : Lead) → Grounded s (leading l)
+  leads : (l : Option Lead) → Grounded s (leading l)
   unfolding leading
-  leads (Lead.To phys attr) = answering s _
-  leads Lead.Nowhere = refusing s Reason.Nowhere
+  leads (Some d) = answering s _
+  leads None = refusing s Reason.Nowhere
 
-  mappings : (v : Verdict) (m : Mapping) → (v ≡ Verdict.Granted → Maps s m) → Grounded s (mapping v m)
+  mappings : (v : Result Grant Reason) (m : Mapping) → (v ≡ (Ok Grant.Hold) → Maps s m) → Grounded s (mapping v m)
   unfolding mapping
-  mappings Verdict.Granted m g = doing s (Map m) (g refl)
-  mappings Verdict.Nothing m g = answering s _
-  mappings (Verdict.No r) m g = refusing s r
+  mappings (Ok Grant.Hold) m g = doing s (Map m) (g refl)
+  mappings (Ok Grant.Nothing) m g = answering s _
+  mappings (Err r) m g = refusing s r
 
   hands : (to : ℕ) → Takes to → Grounded s (handing to s.caller)
   unfolding handing Clear
@@ -208,15 +200,15 @@ module _ (s : HandlerSight) (a : Args) where
         (λ e. chosen (Grounded s) _ _ _ (λ e. trust key)
         (λ e. refusing s Reason.Unserved))))
 
-    rows : (key h : ℕ) (r : Row) → Grounded s (by_row s a key h r)
+    rows : (key h : ℕ) (r : Option Transfer) → Grounded s (by_row s a key h r)
     unfolding by_row
-    rows key h (Is t) = any_transfer t
-    rows key h NoTransfer = numbers key h
+    rows key h (Some t) = any_transfer t
+    rows key h None = numbers key h
 
-    lookups : (key : ℕ) (l : Lookup) → Grounded s (found s a key l)
+    lookups : (key : ℕ) (l : Option ℕ) → Grounded s (found s a key l)
     unfolding found
-    lookups key Nobody = refusing s Reason.Unserved
-    lookups key (Handler h) = rows key h (row_of a h key)
+    lookups key None = refusing s Reason.Unserved
+    lookups key (Some h) = rows key h (row_of a h key)
 
 -- every judgement is grounded
 pub grounded : (s : Sight) (xs : List ℕ) → Grounded s.inner (judged s xs)

@@ -1,5 +1,5 @@
 -- One call judged with two lists of the caller's own mappings. A judgement owes all to that list in a call on it, in a gift of pages whether it is granted, and else nothing.
-use Rattle.std.specs.Prelude.{◌≡◌, true, false, ◌⊎◌, ℕ, eqb}
+use Rattle.std.specs.Prelude.{◌≡◌, true, false, ◌⊎◌, ℕ, eqb, None, Option, Some}
 use Rattle.std.proofs.Math.Path.{refl}
 use Rattle.std.proofs.Common.{inl, inr, ⊎_elim, eqb-true}
 use mathlib.Core.List.{List}
@@ -12,8 +12,6 @@ use Rattle.judgements.specs.declared.Answer.TheVariants as Answer
 use Rattle.judgements.specs.declared.Judged.{Judged}
 use Rattle.judgements.specs.declared.Args.{Args}
 use Rattle.judgements.specs.declared.Transfer.{Transfer}
-use Rattle.judgements.specs.declared.Row.{Row}
-use Rattle.judgements.specs.declared.Row.TheVariants.{Is, NoTransfer}
 
 -- ---- two kinds of calls, by their keys
 -- on the caller's own list: to map, to unmap, to ask where an address leads
@@ -35,7 +33,7 @@ on_list_or k y n =
     (λ c. n (⊎_elim (eqb-false k map_pages a) (⊎_elim (eqb-false k unmap_pages b) (eqb-false k where_leads c))))))
 
 -- a row of the transfers by what it says of the key
-module _ (a : Args) (h k : ℕ) (P : Row → Type 0) (none : P NoTransfer) (takes : (t : Transfer) → t.takes ≡ true → TakesPages k → P (Is t)) (gives : (t : Transfer) → t.takes ≡ false → GivesPages k → P (Is t)) where
+module _ (a : Args) (h k : ℕ) (P : Option Transfer → Type 0) (none : P None) (takes : (t : Transfer) → t.takes ≡ true → TakesPages k → P (Some t)) (gives : (t : Transfer) → t.takes ≡ false → GivesPages k → P (Some t)) where
   pub row_by : P (row_of a h k)
   unfolding row_in
   row_by =

@@ -1,5 +1,5 @@
 -- Nothing is done but what a call asks for: each deed by the handler that the call reaches, its identifier and its arguments.
-use Rattle.std.specs.Prelude.{◌≡◌, false, List, ◌⊎◌, get_or}
+use Rattle.std.specs.Prelude.{◌≡◌, false, List, ◌⊎◌, get_or, Ok, Result, Some}
 use Rattle.std.proofs.Math.Bool.{true}
 use Prim.Native.Nat.{ℕ, ◌≤◌}
 use Rattle.rules.specs.Choice.{pick, either}
@@ -9,17 +9,11 @@ use Rattle.rules.specs.declared.Reason.{Reason}
 use Rattle.rules.specs.declared.Reason.TheVariants as Reason
 use Rattle.identifiers.specs.Identifier.{identifier_of, key_of, admitted}
 use Rattle.ledger.specs.Ledger.{handler}
-use Rattle.ledger.specs.declared.Lookup.TheVariants.{Handler}
 use Rattle.pages.specs.Window.{run_of}
 use Rattle.pages.specs.declared.Window.{Window}
-use Rattle.pages.specs.declared.Place.TheVariants.{Page}
 use Rattle.ranges.specs.declared.Mapping.{Mapping}
-use Rattle.mapping.specs.declared.Verdict.TheVariants as Verdict
-use Rattle.mapping.specs.declared.Lead.TheVariants as Lead
 use Rattle.transfers.specs.Transfer.{transfer_verdict}
 use Rattle.transfers.proofs.Granted.{transfer_granted}
-use Rattle.transfers.specs.declared.Verdict.{Verdict as Moving}
-use Rattle.transfers.specs.declared.Verdict.TheVariants as Moving
 use Rattle.rules.specs.Sizes.{secure, normal, realm}
 use Rattle.judgements.specs.Names.{core_off, core_start, core_start_wide, map_pages, unmap_pages, where_leads, count_on}
 use Rattle.judgements.specs.Judge.{Sight, denied, one_of, callers, wanted, called_by, row_of, judged_by, judged}
@@ -29,19 +23,18 @@ use Rattle.judgements.specs.declared.Deed.{Deed}
 use Rattle.judgements.specs.declared.Deed.TheVariants.{Nothing, Move, Map, Unmap, Start, GoOff, HandOver, Finish}
 use Rattle.judgements.specs.declared.Args.{Args}
 use Rattle.judgements.specs.declared.Transfer.{Transfer}
-use Rattle.judgements.specs.declared.Row.TheVariants.{Is}
 use Rattle.judgements.specs.declared.Caller.{Caller}
 
 -- ---- what a call asks for, by the handler that it reaches and its identifier
 -- a transfer: the start, the number of pages, and the world that takes them
 pub data Asks (v : Caller) (a : Args) (h key : ℕ) : ℕ → ℕ → ℕ → Type 0 where
-  by_row_lem : (t : Transfer) → row_of a h key ≡ Is t → Asks v a h key a.x1 t.count (pick t.takes v.world normal)
+  by_row_lem : (t : Transfer) → row_of a h key ≡ Some t → Asks v a h key a.x1 t.count (pick t.takes v.world normal)
 
 -- such a transfer of the run from this page on
 pub record AsksAt (v : Caller) (a : Args) (h key first count to : ℕ) : Type 0 where
   pub start : ℕ
   pub asks : Asks v a h key start count to
-  pub lies : run_of v.window start count ≡ Page first
+  pub lies : run_of v.window start count ≡ Some first
 
 -- a hand-over to a world
 pub data HandsTo : ℕ → ℕ → ℕ → Type 0 where
@@ -79,8 +72,8 @@ CalledFor v a h key (HandOver to) r = HandsTo h key to × (r ≡ Answer.Silent)
 CalledFor v a h key Finish r = Finishes h key v.world × (r ≡ Answer.Silent)
 
 -- ---- where the run of a granted transfer lies
-abbrev pub Lies : Window → Moving → ℕ → ℕ → Type 0
-Lies w v start count = (first : ℕ) → v ≡ Moving.Granted first → run_of w start count ≡ Page first
+abbrev pub Lies : Window → Result ℕ Reason → ℕ → ℕ → Type 0
+Lies w v start count = (first : ℕ) → v ≡ Ok first → run_of w start count ≡ Some first
 
 module _ (w : Window) (o : List ℕ) (list : List Mapping) (from start count : ℕ) where
   pub lies : Lies w (transfer_verdict w o list from start count) start count
@@ -95,7 +88,7 @@ key xs = key_of (identifier_of (get_or xs 0 0))
 pub record Reached (s : Sight) (xs : List ℕ) (P : ℕ → Type 0) : Type 0 where
   pub passes : admitted (called_by xs) ≡ true
   pub number : ℕ
-  pub reached : handler s.ledger (called_by xs).fast (called_by xs).owner ≡ Handler number
+  pub reached : handler s.ledger (called_by xs).fast (called_by xs).owner ≡ Some number
   pub so : P number
 
 -- A call whose bits 23 to 17 do not pass it is refused, whatever its owner.

@@ -1,15 +1,12 @@
 -- And what is asked for is done, or refused: a judgement of such a call by its two outcomes.
 use Rattle.std.proofs.Math.Path.{◌≡◌}
-use Rattle.std.specs.Prelude.{ℕ}
+use Rattle.std.specs.Prelude.{ℕ, Option, Some}
+use Rattle.mapping.specs.Leads.{To}
+use Rattle.mapping.specs.declared.Lead.{Lead}
 use Rattle.rules.specs.declared.Reason.{Reason}
 use Rattle.rules.specs.declared.Reason.TheVariants as Reason
 use Rattle.pages.specs.Window.{run_of}
 use Rattle.pages.specs.declared.Window.{Window}
-use Rattle.pages.specs.declared.Place.TheVariants.{Page}
-use Rattle.mapping.specs.declared.Verdict.TheVariants as Verdict
-use Rattle.mapping.specs.declared.Lead.{Lead}
-use Rattle.mapping.specs.declared.Lead.TheVariants as Lead
-use Rattle.transfers.specs.declared.Verdict.TheVariants as Moving
 use Rattle.judgements.specs.declared.Answer.{Answer}
 use Rattle.judgements.specs.declared.Answer.TheVariants as Answer
 use Rattle.judgements.specs.declared.Deed.{Deed}
@@ -25,10 +22,10 @@ pub data Decided (a : Answer) (P : Deed → Type 0) (j : Judged) : Type 0 where
 -- a deed moves the run that lies there
 pub record MovesRun (w : Window) (start count to : ℕ) (d : Deed) : Type 0 where
   pub first : ℕ
-  pub lies : run_of w start count ≡ Page first
+  pub lies : run_of w start count ≡ Some first
   pub moves : d ≡ Move first count to
 
 -- the judgement tells where an address leads; or it is a refusal
-pub data TellsLead (l : Lead) (j : Judged) : Type 0 where
-  leads : (phys attr : ℕ) → l ≡ Lead.To phys attr → j.answer ≡ Answer.Leads phys attr → TellsLead l j
+pub data TellsLead (l : Option Lead) (j : Judged) : Type 0 where
+  leads : (phys attr : ℕ) → l ≡ To phys attr → j.answer ≡ Answer.Leads phys attr → TellsLead l j
   leads_not : (r : Reason) → j.answer ≡ Answer.No r → TellsLead l j

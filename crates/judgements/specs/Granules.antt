@@ -1,11 +1,10 @@
 -- A granule call is the several-page call with a count of one: for Realm the two are judged alike. And the table of transfers in plain numbers.
-use Rattle.std.specs.Prelude.{◌≡◌, refl, true, false}
+use Rattle.std.specs.Prelude.{◌≡◌, refl, true, false, Some}
 use Rattle.rules.specs.Choice.{pick}
 use Rattle.rules.specs.Sizes.{realm}
 use Rattle.judgements.specs.Names.{granule_to_realm, granule_to_normal, take_pages, give_pages}
 use Rattle.judgements.specs.Judge.{HandlerSight, one_of, row_in, row_of, by_row, by_handler, transferring}
 use Rattle.judgements.specs.declared.Args.{Args}
-use Rattle.judgements.specs.declared.Row.TheVariants.{Is}
 
 -- a reads one page, whatever its x2; b reads as many as its x2 says
 module _ (s : HandlerSight) (a b : Args) (by : s.caller.world ≡ realm) (same : b.x1 ≡ a.x1) (one : b.x2 ≡ 1) where
@@ -19,10 +18,10 @@ module _ (s : HandlerSight) (a b : Args) (by : s.caller.world ≡ realm) (same :
 
 -- The table in the paper's numbers: who may call besides Realm, whether the caller takes, and how many pages.
 pub rows_listed : (a : Args) →
-    (row_of a 2 0xC40001B0 ≡ Is (record { both = false; takes = true; count = 1 })) × (
-    (row_of a 2 0xC40001B1 ≡ Is (record { both = false; takes = false; count = 1 })) × (
-    (row_of a 1 0xC2000010 ≡ Is (record { both = true; takes = true; count = a.x2 })) ×
-    (row_of a 1 0xC2000011 ≡ Is (record { both = true; takes = false; count = a.x2 }))
+    (row_of a 2 0xC40001B0 ≡ Some (record { both = false; takes = true; count = 1 })) × (
+    (row_of a 2 0xC40001B1 ≡ Some (record { both = false; takes = false; count = 1 })) × (
+    (row_of a 1 0xC2000010 ≡ Some (record { both = true; takes = true; count = a.x2 })) ×
+    (row_of a 1 0xC2000011 ≡ Some (record { both = true; takes = false; count = a.x2 }))
     )
     )
 unfolding row_in pick

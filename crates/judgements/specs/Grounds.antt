@@ -1,19 +1,16 @@
 -- What a granted deed stands on, whatever the call: one law over every judgement, by which the theorems over runs go.
-use Rattle.std.specs.Prelude.{◌≡◌, Bool, true, ◌||◌, ◌⊎◌, ℕ, ◌<◌, eqb}
+use Rattle.std.specs.Prelude.{◌≡◌, Bool, true, ◌||◌, ◌⊎◌, ℕ, ◌<◌, eqb, Ok, Result}
 use Rattle.std.proofs.Common.{inl, inr}
 use Rattle.std.proofs.Math.Bool.{false, not}
 use mathlib.Core.List.{List, [], ◌∷◌}
 use borrow.Author.Tests.{eqb-true, not-false}
+use Rattle.mapping.specs.declared.Grant.TheVariants as Grant
+use Rattle.mapping.specs.declared.Grant.{Grant}
 use Rattle.rules.specs.Choice.{pick, either, yes_or_no}
 use Rattle.rules.specs.declared.Reason.TheVariants as Reason
 use Rattle.mapping.specs.Mapping.{map_verdict, has_exactly}
 use Rattle.ranges.specs.declared.Mapping.{Mapping}
-use Rattle.mapping.specs.declared.Verdict.{Verdict}
-use Rattle.mapping.specs.declared.Verdict.TheVariants as Verdict
-use Rattle.mapping.specs.declared.Lead.TheVariants as Lead
 use Rattle.transfers.specs.Transfer.{transfer_verdict}
-use Rattle.transfers.specs.declared.Verdict.{Verdict as Moving}
-use Rattle.transfers.specs.declared.Verdict.TheVariants as Moving
 use Rattle.rules.specs.Sizes.{secure, normal, realm}
 use Rattle.judgements.specs.declared.Answer.TheVariants as Answer
 use Rattle.judgements.specs.Judge.{HandlerSight, one_of, takers, callers}
@@ -39,12 +36,12 @@ pub record Moves (s : HandlerSight) (first count to : ℕ) : Type 0 where
   pub between : Between s from to list
   pub some : 0 < count
   pub caller : Takes s.caller.world
-  pub verdict : transfer_verdict s.caller.window s.owners list from start count ≡ Moving.Granted first
+  pub verdict : transfer_verdict s.caller.window s.owners list from start count ≡ Ok first
 
 -- a mapping that is granted
 pub record Maps (s : HandlerSight) (m : Mapping) : Type 0 where
   pub caller : Calls s.caller.world
-  pub verdict : map_verdict s.own s.owners s.caller.window s.caller.world m ≡ Verdict.Granted
+  pub verdict : map_verdict s.own s.owners s.caller.window s.caller.world m ≡ (Ok Grant.Hold)
 
 -- a mapping of this start and size that the caller holds
 pub record Unmaps (s : HandlerSight) (virt size : ℕ) : Type 0 where

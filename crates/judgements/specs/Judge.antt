@@ -1,5 +1,9 @@
 -- What a call is answered, and what is to be done for it: the paper's table of calls, each call with its tests in order. The order of the whole judgement stands at the end.
-use Rattle.std.specs.Prelude.{Bool, true, false, not, ◌&&◌, ◌||◌, List, [], ◌∷◌, ℕ, ◌%◌, ltb, leb, eqb, get_or}
+use Rattle.std.specs.Prelude.{Bool, true, false, not, ◌&&◌, ◌||◌, List, [], ◌∷◌, ℕ, ◌%◌, ltb, leb, eqb, get_or, Err, None, Ok, Option, Result, Some}
+use Rattle.mapping.specs.Leads.{To}
+use Rattle.mapping.specs.declared.Lead.{Lead}
+use Rattle.mapping.specs.declared.Grant.TheVariants as Grant
+use Rattle.mapping.specs.declared.Grant.{Grant}
 use Rattle.rules.specs.Choice.{pick}
 use Rattle.rules.specs.Tests.{Test, refuses, sieve}
 use Rattle.rules.specs.declared.Reason.{Reason}
@@ -7,25 +11,15 @@ use Rattle.rules.specs.declared.Reason.TheVariants as Reason
 use Rattle.identifiers.specs.Identifier.{identifier_of, parts, key_of, admitted, argument}
 use Rattle.identifiers.specs.declared.Parts.{Parts}
 use Rattle.ledger.specs.Ledger.{handler}
-use Rattle.ledger.specs.declared.Lookup.{Lookup}
-use Rattle.ledger.specs.declared.Lookup.TheVariants.{Handler, Nobody}
 use Rattle.cores.specs.Power.{is_on, is_pending}
 use Rattle.cores.specs.Cores.{power, on_count}
 use Rattle.cores.specs.declared.Power.{Power}
 use Rattle.pages.specs.Window.{page_of}
 use Rattle.pages.specs.Owners.{owner}
 use Rattle.pages.specs.declared.Window.{Window}
-use Rattle.pages.specs.declared.Place.{Place}
-use Rattle.pages.specs.declared.Place.TheVariants.{Page, Outside}
 use Rattle.mapping.specs.Mapping.{map_verdict, has_exactly, lead_of}
 use Rattle.ranges.specs.declared.Mapping.{Mapping}
-use Rattle.mapping.specs.declared.Verdict.{Verdict}
-use Rattle.mapping.specs.declared.Verdict.TheVariants as Verdict
-use Rattle.mapping.specs.declared.Lead.{Lead}
-use Rattle.mapping.specs.declared.Lead.TheVariants as Lead
 use Rattle.transfers.specs.Transfer.{transfer_verdict}
-use Rattle.transfers.specs.declared.Verdict.{Verdict as Moving}
-use Rattle.transfers.specs.declared.Verdict.TheVariants as Moving
 use Rattle.rules.specs.Sizes.{secure, normal, realm}
 use Rattle.judgements.specs.Names.{version, features, power_version, core_off, core_start, core_start_wide, core_state, core_state_wide, power_features, granule_to_realm, granule_to_normal, realm_first, realm_last, realm_finish, take_pages, give_pages, owns_page, map_pages, unmap_pages, where_leads, count_on, secure_finish}
 use Rattle.judgements.specs.declared.Answer.{Answer}
@@ -36,8 +30,6 @@ use Rattle.judgements.specs.declared.Judged.{Judged}
 use Rattle.judgements.specs.declared.Caller.{Caller}
 use Rattle.judgements.specs.declared.Args.{Args}
 use Rattle.judgements.specs.declared.Transfer.{Transfer}
-use Rattle.judgements.specs.declared.Row.{Row}
-use Rattle.judgements.specs.declared.Row.TheVariants.{Is, NoTransfer}
 
 -- what the handlers may look at: the caller and its board, the cores' power, the owners, and two lists of mappings, the caller's and Normal's
 pub record HandlerSight : Type 0 where
@@ -122,9 +114,9 @@ architecture a key =
 
 -- ---- core power
 -- the page that holds an address has this owner
-unfoldable pub owned_at : List ℕ → Place → ℕ → Bool
-owned_at o (Page page) world = eqb (owner o page) world
-owned_at o Outside world = false
+unfoldable pub owned_at : List ℕ → Option ℕ → ℕ → Bool
+owned_at o (Some page) world = eqb (owner o page) world
+owned_at o None world = false
 
 -- a core may start there: an instruction's address, in a page of Normal's
 unfoldable pub good_start : Window → List ℕ → ℕ → Bool
@@ -183,20 +175,20 @@ transfers h a =
     (pick (eqb h 1) (listed take_pages true true a.x2 ∷ listed give_pages true false a.x2 ∷ []) [])
 
 -- the row of a call
-unfoldable pub row_in : List Listed → ℕ → Row
-row_in [] key = NoTransfer
-row_in (l ∷ ls) key = pick (eqb key l.key) (Is l.transfer) (row_in ls key)
+unfoldable pub row_in : List Listed → ℕ → Option Transfer
+row_in [] key = None
+row_in (l ∷ ls) key = pick (eqb key l.key) (Some l.transfer) (row_in ls key)
 
-abbrev pub row_of : Args → ℕ → ℕ → Row
+abbrev pub row_of : Args → ℕ → ℕ → Option Transfer
 row_of a h key = row_in (transfers h a) key
 
 abbrev pub may_transfer : Transfer → List ℕ
 may_transfer t = pick t.both takers (realm ∷ [])
 
 -- what a transfer's verdict makes of the call
-unfoldable pub moving : Moving → ℕ → ℕ → Judged
-moving (Moving.Granted first) count to = granted Answer.Done (Deed.Move first count to)
-moving (Moving.No r) count to = denied r
+unfoldable pub moving : Result ℕ Reason → ℕ → ℕ → Judged
+moving (Ok first) count to = granted Answer.Done (Deed.Move first count to)
+moving (Err r) count to = denied r
 
 -- pages from x1 on, from Normal to the caller, or from the caller to Normal
 unfoldable pub transferring : Transfer → Caller → List ℕ → List Mapping → List Mapping → Args → Judged
@@ -207,25 +199,25 @@ transferring t v o own theirs a =
 
 -- ---- handler 1: the board
 -- whether the caller owns the page at this place
-unfoldable pub owning : List ℕ → Place → ℕ → Judged
-owning o (Page page) world = granted (Answer.Owns (eqb (owner o page) world)) Deed.Nothing
-owning o Outside world = denied Reason.Invalid
+unfoldable pub owning : List ℕ → Option ℕ → ℕ → Judged
+owning o (Some page) world = granted (Answer.Owns (eqb (owner o page) world)) Deed.Nothing
+owning o None world = denied Reason.Invalid
 
 -- the mapping that a call wants
 abbrev pub wanted : Args → Mapping
 wanted a = record { virt = a.x2; phys = a.x1; size = a.x3; attr = a.x4 }
 
-unfoldable pub mapping : Verdict → Mapping → Judged
-mapping Verdict.Granted m = granted Answer.Done (Deed.Map m)
-mapping Verdict.Nothing m = granted Answer.Done Deed.Nothing
-mapping (Verdict.No r) m = denied r
+unfoldable pub mapping : Result Grant Reason → Mapping → Judged
+mapping (Ok Grant.Hold) m = granted Answer.Done (Deed.Map m)
+mapping (Ok Grant.Nothing) m = granted Answer.Done Deed.Nothing
+mapping (Err r) m = denied r
 
 unfoldable pub unmapping : List Mapping → Args → Judged
 unmapping own a = tested (refuses (not (has_exactly own a.x1 a.x2)) Reason.NoMapping ∷ []) (granted Answer.Done (Deed.Unmap a.x1 a.x2))
 
-unfoldable pub leading : Lead → Judged
-leading (Lead.To phys attr) = granted (Answer.Leads phys attr) Deed.Nothing
-leading Lead.Nowhere = denied Reason.Nowhere
+unfoldable pub leading : Option Lead → Judged
+leading (Some d) = granted (Answer.Leads d.phys d.attr) Deed.Nothing
+leading None = denied Reason.Nowhere
 
 unfoldable pub board : HandlerSight → Args → ℕ → Judged
 board s a key =
@@ -277,16 +269,16 @@ by_number s a key h =
     (pick (eqb h 3) (trusted s.caller key)
     (denied Reason.Unserved))))
 
-unfoldable pub by_row : HandlerSight → Args → ℕ → ℕ → Row → Judged
-by_row s a key h (Is t) = transferring t s.caller s.owners s.own s.theirs a
-by_row s a key h NoTransfer = by_number s a key h
+unfoldable pub by_row : HandlerSight → Args → ℕ → ℕ → Option Transfer → Judged
+by_row s a key h (Some t) = transferring t s.caller s.owners s.own s.theirs a
+by_row s a key h None = by_number s a key h
 
 abbrev pub by_handler : HandlerSight → Args → ℕ → ℕ → Judged
 by_handler s a key h = by_row s a key h (row_of a h key)
 
-unfoldable pub found : HandlerSight → Args → ℕ → Lookup → Judged
-found s a key Nobody = denied Reason.Unserved
-found s a key (Handler h) = by_handler s a key h
+unfoldable pub found : HandlerSight → Args → ℕ → Option ℕ → Judged
+found s a key None = denied Reason.Unserved
+found s a key (Some h) = by_handler s a key h
 
 abbrev pub called_by : List ℕ → Parts
 called_by xs = parts (identifier_of (get_or xs 0 0))

@@ -1,6 +1,7 @@
 -- A call that Realm makes on its own list of mappings does nothing else, whatever handler the ledger has for it.
-use Rattle.std.specs.Prelude.{◌≡◌, ℕ, ◌≤◌}
+use Rattle.std.specs.Prelude.{◌≡◌, ℕ, ◌≤◌, Option, Some}
 use Rattle.std.proofs.Common.{⊎_elim, arith}
+use Rattle.judgements.specs.declared.Transfer.{Transfer}
 use Rattle.judgements.specs.Names.{granule_to_realm, granule_to_normal, take_pages, give_pages, map_pages, unmap_pages, where_leads}
 use Rattle.judgements.specs.Alike.{OnList, row_by}
 use Rattle.judgements.specs.Asked.{Asks, by_row_lem, Finishes, by_secure, by_realm}
@@ -8,8 +9,6 @@ use Rattle.judgements.specs.declared.Deed.{Deed}
 use Rattle.judgements.specs.declared.Deed.TheVariants.{Nothing, Move, Map, Unmap, Start, GoOff, HandOver, Finish}
 use Rattle.judgements.specs.declared.Args.{Args}
 use Rattle.judgements.specs.declared.Caller.{Caller}
-use Rattle.judgements.specs.declared.Row.{Row}
-use Rattle.judgements.specs.declared.Row.TheVariants.{Is}
 
 -- the deeds that touch the caller's list alone
 abbrev pub OwnList : Deed → Type 0
@@ -29,7 +28,7 @@ on_list_range k =
 pub no_transfer : {v : Caller} {a : Args} {h k start count to : ℕ} → Asks v a h k start count to → OnList k → ⊥
 no_transfer {a = a} {h = h} {k = k} (by_row_lem t e) on =
     let r = on_list_range k on in
-    row_by a h k (λ (q : Row). q ≡ Is t → ⊥) (λ f. let z : ◌≡◌ {A = ℕ} 0 1 = cc in omega arith)
+    row_by a h k (λ (q : Option Transfer). q ≡ Some t → ⊥) (λ f. let z : ◌≡◌ {A = ℕ} 0 1 = cc in omega arith)
     (λ u f g w. ⊎_elim (λ (y : k ≡ granule_to_realm). omega (arith, r.0)) (λ (y : k ≡ take_pages). omega (arith, r.0)) g)
     (λ u f g w. ⊎_elim (λ (y : k ≡ granule_to_normal). omega (arith, r.1)) (λ (y : k ≡ give_pages). omega (arith, r.0)) g) e
 

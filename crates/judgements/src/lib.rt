@@ -102,13 +102,6 @@ pub struct Transfer {
     pub count: u64,
 }
 
-// What the table of transfers has for a call.
-#[derive(Clone, Copy)]
-pub enum Row {
-    Is(Transfer),
-    NoTransfer,
-}
-
 // What a call reads of the caller's eight numbers.
 #[derive(Clone, Copy)]
 pub struct Request {

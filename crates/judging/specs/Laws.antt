@@ -1,39 +1,35 @@
 -- How what the ledger says, and the eight numbers, lead to the whole judgement.
-use Rattle.std.specs.Prelude.{◌≡◌, List, ℕ, get_or}
+use Rattle.std.specs.Prelude.{◌≡◌, List, ℕ, get_or, None, Option, Some}
 use Rattle.std.proofs.Common.{ap, ◌∙◌}
 use Rattle.rules.specs.Tests.{contraries}
 use Rattle.rules.specs.declared.Reason.TheVariants as Reason
 use Rattle.identifiers.specs.Identifier.{identifier_of, parts, key_of}
 use Rattle.identifiers.specs.declared.Identifier.{Identifier}
 use Rattle.identifiers.specs.declared.Parts.{Parts}
-use Rattle.ledger.specs.declared.Lookup.{Lookup}
-use Rattle.ledger.specs.declared.Lookup.TheVariants.{Handler, Nobody}
 use Rattle.judgements.specs.declared.Judged.{Judged}
 use Rattle.judgements.specs.declared.Args.{Args}
 use Rattle.judgements.specs.declared.Request.{Request}
 use Rattle.judgements.specs.declared.Transfer.{Transfer}
-use Rattle.judgements.specs.declared.Row.{Row}
-use Rattle.judgements.specs.declared.Row.TheVariants.{Is, NoTransfer}
 use Rattle.judgements.specs.Judge.{HandlerSight, called_by, args_of, denied, transferring, by_number, by_row, found, by_handler}
 use Rattle.judgements.specs.Read.{args_by, read_by_key}
 
 -- ---- what the ledger says
-module _ (s : HandlerSight) (a : Args) (key : ℕ) (k l : Lookup) (r : Judged) (same : k ≡ l) where
-  pub by_nobody : k ≡ Nobody → r ≡ denied Reason.Unserved → r ≡ found s a key l
+module _ (s : HandlerSight) (a : Args) (key : ℕ) (k l : Option ℕ) (r : Judged) (same : k ≡ l) where
+  pub by_nobody : k ≡ None → r ≡ denied Reason.Unserved → r ≡ found s a key l
   unfolding found
   by_nobody e h = rw (← same, e) h
 
-  pub by_somebody : (h : ℕ) → k ≡ Handler h → r ≡ by_handler s a key h → r ≡ found s a key l
+  pub by_somebody : (h : ℕ) → k ≡ Some h → r ≡ by_handler s a key h → r ≡ found s a key l
   unfolding found
   by_somebody h e g = rw (← same, e) g
 
 -- ---- what the table of transfers has
-module _ (s : HandlerSight) (a : Args) (key h : ℕ) (k l : Row) (r : Judged) (same : k ≡ l) where
-  pub by_transfer : (t : Transfer) → k ≡ Is t → r ≡ transferring t s.caller s.owners s.own s.theirs a → r ≡ by_row s a key h l
+module _ (s : HandlerSight) (a : Args) (key h : ℕ) (k l : Option Transfer) (r : Judged) (same : k ≡ l) where
+  pub by_transfer : (t : Transfer) → k ≡ Some t → r ≡ transferring t s.caller s.owners s.own s.theirs a → r ≡ by_row s a key h l
   unfolding by_row
   by_transfer t e g = rw (← same, e) g
 
-  pub by_other : k ≡ NoTransfer → r ≡ by_number s a key h → r ≡ by_row s a key h l
+  pub by_other : k ≡ None → r ≡ by_number s a key h → r ≡ by_row s a key h l
   unfolding by_row
   by_other e g = rw (← same, e) g
 

@@ -12,8 +12,8 @@ use architecture::architecture_call;
 use board::board_call;
 use cores::Powers;
 use identifiers::{Identifier, Parts};
-use judgements::{Caller, Judged, Request, Row, read_args, refuse};
-use ledger::{Ledger, Lookup};
+use judgements::{Caller, Judged, Request, read_args, refuse};
+use ledger::Ledger;
 use mapping::Lists;
 use pages::Owners;
 use rules::Reason;
@@ -45,8 +45,8 @@ fn by_handler(
     ensures { result ≡ by_handler (handler_sight v powers.now owners.now (held lists.now v.world) (held lists.now normal)) (args_by key x.now) key h }
 {
     match page_calls::row_of(x, h, key) {
-        Row::Is(t) => page_calls::transfer(t, v, owners, lists, x, key),
-        Row::NoTransfer => match h {
+        Some(t) => page_calls::transfer(t, v, owners, lists, x, key),
+        None => match h {
             0 => architecture_call(x, key),
             1 => board_call(v, powers, owners, lists, x, key),
             2 => standard_call(v, powers, owners, x, key),
@@ -88,7 +88,7 @@ pub fn judge(
     if !p.admitted() {
         return refuse(Reason::Unserved);
     }
-    let Lookup::Handler(h) = ledger::handler_of(book, p.fast, p.owner) else {
+    let Some(h) = ledger::handler_of(book, p.fast, p.owner) else {
         return refuse(Reason::Unserved);
     };
     by_handler(v, powers, owners, lists, x, key, h)

@@ -1,13 +1,10 @@
 -- No call has two handlers: whatever entries are tried, in whatever order, from an empty ledger on, at most one of them serves a pair.
 use Rattle.std.proofs.Math.Path.{◌≡◌}
-use Rattle.std.specs.Prelude.{refl, Bool, true, ◌&&◌, ℕ, ◌≤◌}
+use Rattle.std.specs.Prelude.{refl, Bool, true, ◌&&◌, ℕ, ◌≤◌, None, Ok, Result, Some, ⊤}
 use Rattle.std.proofs.Common.{ap, ◌∙◌, arith}
-use mathlib.Core.List.Memᴰ
 use mathlib.Core.List.{List, [], ◌∷◌, ◌++◌, Memᴰ}
+use Rattle.rules.specs.declared.Fault.{Fault}
 use Rattle.rules.specs.Choice.{pick, chosen, pick_yes, pick_no, either}
-use Rattle.ledger.specs.declared.Lookup.TheVariants.{Handler, Nobody}
-use Rattle.rules.specs.declared.Entered.{Entered}
-use Rattle.rules.specs.declared.Entered.TheVariants.{Accepted}
 use Rattle.ledger.specs.Ledger.{Proper, empty, handler, empty_proper, empty_handler, is_accepted, Ranged}
 use Rattle.ledger.proofs.Ledger.{handler_after, handler_before, entered_proper, accepted_where, granted}
 use Rattle.ledger.specs.Only.{only, only_has, only_none, only_more, only_next}
@@ -21,14 +18,14 @@ module _ (kind owner : ℕ) where
   proper : (t : List ℕ) (a : Attempt) → Proper t → Proper (next t a)
   proper t a w = entered_proper t a.first a.last a.kind a.number w
 
-  lacked : (t : List ℕ) (a : Attempt) → gains t a ≡ true → handler t kind owner ≡ Nobody
+  lacked : (t : List ℕ) (a : Attempt) → gains t a ≡ true → handler t kind owner ≡ None
   lacked t a y = handler_before t a.first a.last a.kind a.number kind owner y
 
-  gained : (t : List ℕ) (a : Attempt) → Proper t → handler (next t a) kind owner ≡ pick (gains t a) (Handler a.number) (handler t kind owner)
+  gained : (t : List ℕ) (a : Attempt) → Proper t → handler (next t a) kind owner ≡ pick (gains t a) (Some a.number) (handler t kind owner)
   gained t a w = handler_after t a.first a.last a.kind a.number w kind owner
 
-  held : (tries : List Attempt) (t : List ℕ) → Proper t → (number : ℕ) → handler t kind owner ≡ Handler number
-      → (handler (ran t tries) kind owner ≡ Handler number) × (only (covers kind owner) (accepted t tries) ≡ [])
+  held : (tries : List Attempt) (t : List ℕ) → Proper t → (number : ℕ) → handler t kind owner ≡ Some number
+      → (handler (ran t tries) kind owner ≡ Some number) × (only (covers kind owner) (accepted t tries) ≡ [])
   unfolding ran accepted only
   held [] t w number e = (e, refl)
   held (a ∷ rest) t w number e =
@@ -38,7 +35,7 @@ module _ (kind owner : ℕ) where
       let r = held rest (next t a) (proper t a w) number (gained t a w ∙ pick_no _ _ _ n ∙ e) in
       (r.0, only_next (covers kind owner) (is_accepted (answer t a)) a _ ∙ pick_no _ _ _ n ∙ r.1))
 
-  waits : (tries : List Attempt) (t : List ℕ) → Proper t → handler t kind owner ≡ Nobody
+  waits : (tries : List Attempt) (t : List ℕ) → Proper t → handler t kind owner ≡ None
       → One (only (covers kind owner) (accepted t tries)) (handler (ran t tries) kind owner)
   unfolding ran accepted only
   waits [] t w e = rw e none
@@ -55,11 +52,11 @@ one_handler tries kind owner = waits kind owner tries empty empty_proper (empty_
 
 module _ (tries : List Attempt) (kind owner : ℕ) where
   -- The handler of an accepted entry takes the calls of every pair that the entry names.
-  pub its_handler : (a : Attempt) → Memᴰ a (accepted empty tries) → covers kind owner a ≡ true → handler (ran empty tries) kind owner ≡ Handler a.number
+  pub its_handler : (a : Attempt) → Memᴰ a (accepted empty tries) → covers kind owner a ≡ true → handler (ran empty tries) kind owner ≡ Some a.number
   its_handler a m c = its (one_handler tries kind owner) (only_has (covers kind owner) a (accepted empty tries) c m)
 
   -- Nobody takes the calls of a pair that no accepted entry names.
-  pub nobody : ((a : Attempt) → Memᴰ a (accepted empty tries) → covers kind owner a ≡ true → ⊥) → handler (ran empty tries) kind owner ≡ Nobody
+  pub nobody : ((a : Attempt) → Memᴰ a (accepted empty tries) → covers kind owner a ≡ true → ⊥) → handler (ran empty tries) kind owner ≡ None
   nobody f = nobodys (one_handler tries kind owner) (only_none (covers kind owner) (accepted empty tries) f)
 
   -- No two accepted entries name one pair.
@@ -79,14 +76,14 @@ module _ (before : List Attempt) (a : Attempt) where
     pub free : (b : Attempt) (owner : ℕ) → Memᴰ b (accepted empty before) → a.first ≤ owner → owner ≤ a.last → covers a.kind owner b ≡ true → ⊥
 
   -- Such an attempt is accepted.
-  pub welcome_accepted : Welcome → answer (ran empty before) a ≡ Accepted
+  pub welcome_accepted : Welcome → answer (ran empty before) a ≡ (Ok tt)
   welcome_accepted w =
-      ap (λ (e : Entered × List ℕ). e.0)
+      ap (λ (e : Result ⊤ Fault × List ℕ). e.0)
       (accepted_where (ran empty before) a.first a.last a.kind a.number w.ranged
       (λ owner h l. nobody before a.kind owner (λ b m c. w.free b owner m h l c)))
 
   -- No other is.
-  pub accepted_welcome : answer (ran empty before) a ≡ Accepted → Welcome
+  pub accepted_welcome : answer (ran empty before) a ≡ (Ok tt) → Welcome
   accepted_welcome e =
       let g = granted (ran empty before) a.first a.last a.kind a.number e in
       record {

@@ -1,5 +1,5 @@
 -- How a ledger keeps the accepted entries: one behind the other, oldest first, and a free place behind the last of them. The layout is opened nowhere else: `handler` says what a ledger holds, `used` how many entries, and the laws what one entry more does to both.
-use Rattle.std.specs.Prelude.{◌≡◌, Bool, true, false, ◌&&◌, ltb, leb, eqb, get_or, set, take, replicate}
+use Rattle.std.specs.Prelude.{◌≡◌, Bool, true, false, ◌&&◌, ltb, leb, eqb, get_or, set, take, replicate, None, Option, Some}
 use Rattle.std.proofs.Math.Path.{refl, sym}
 use Rattle.std.proofs.Common.{ap, ◌∙◌, length-append, get_or-take, get_or-set_same}
 use mathlib.Core.List.{List, [], ◌∷◌, ◌++◌}
@@ -12,8 +12,6 @@ use borrow.Author.Tests.{lt-ltb, le-ltb, eq-eqb, le-leb, ltb-true, ltb-false, eq
 use Rattle.rules.specs.Sizes.{last_owner, last_kind, last_handler}
 use Rattle.rules.specs.Choice.{pick, pick_yes, pick_no, either, both_true, left_true, right_true}
 use Rattle.tools.specs.Store.{read, write, Whole, read_in, write_in, write_out, write_other, write_whole, blank_whole, blank_read}
-use Rattle.ledger.specs.declared.Lookup.{Lookup}
-use Rattle.ledger.specs.declared.Lookup.TheVariants.{Handler, Nobody}
 
 -- the pair of type k and owner o is one of those that an entry names
 unfoldable pub names : ℕ → ℕ → ℕ → ℕ → ℕ → Bool
@@ -69,9 +67,9 @@ entries t at zero = []
 entries t at (suc left) = pick (free (read 128 t at)) [] (read 128 t at ∷ entries t (suc at) left)
 
 -- the handler of the first entry that names the pair
-serving : List ℕ → ℕ → ℕ → Lookup
-serving [] kind owner = Nobody
-serving (e ∷ l) kind owner = pick (meant e kind owner) (Handler (number_of e)) (serving l kind owner)
+serving : List ℕ → ℕ → ℕ → Option ℕ
+serving [] kind owner = None
+serving (e ∷ l) kind owner = pick (meant e kind owner) (Some (number_of e)) (serving l kind owner)
 
 -- ---- a ledger
 -- it has 128 places
@@ -83,7 +81,7 @@ pub empty : List ℕ
 empty = replicate 128 0
 
 -- who takes the calls of a pair
-pub handler : List ℕ → ℕ → ℕ → Lookup
+pub handler : List ℕ → ℕ → ℕ → Option ℕ
 handler t kind owner = serving (entries t 0 128) kind owner
 
 -- how many places are in use
@@ -135,22 +133,22 @@ pub ruleset meanings = (ends_before, starts_before)
 
 -- no entry names a pair that is none
 module _ (t : List ℕ) (kind owner : ℕ) where
-  unmeant : ((e : ℕ) → meant e kind owner ≡ false) → (l : List ℕ) → serving l kind owner ≡ Nobody
+  unmeant : ((e : ℕ) → meant e kind owner ≡ false) → (l : List ℕ) → serving l kind owner ≡ None
   unfolding serving
   unmeant none [] = refl
   unmeant none (e ∷ l) = pick_no _ _ _ (none e) ∙ unmeant none l
 
-  pub no_kind : last_kind < kind → Nobody ≡ handler t kind owner
+  pub no_kind : last_kind < kind → None ≡ handler t kind owner
   unfolding handler
   no_kind h = sym (unmeant (λ e. not_meant e kind owner (λ z f l. omega arith)) (entries t 0 128))
 
-  pub no_owner : last_owner < owner → Nobody ≡ handler t kind owner
+  pub no_owner : last_owner < owner → None ≡ handler t kind owner
   unfolding handler
   no_owner h = sym (unmeant (λ e. not_meant e kind owner (λ z f l. omega arith)) (entries t 0 128))
 
 -- ---- and the walk over the places
 -- what the walk still finds, and how many entries there still are
-pub onward : List ℕ → ℕ → ℕ → ℕ → ℕ → Lookup
+pub onward : List ℕ → ℕ → ℕ → ℕ → ℕ → Option ℕ
 onward t kind owner at left = serving (entries t at left) kind owner
 
 pub counted : List ℕ → ℕ → ℕ → ℕ
@@ -181,23 +179,26 @@ module _ (t : List ℕ) (at left e : ℕ) (is : e ≡ get_or t at 0) (all : at +
   entry_place h = a_place ∙ pick_no _ _ _ (le-ltb e 32768 h)
 
 -- `k` being what the whole walk finds
-module _ (t : List ℕ) (kind owner at left : ℕ) (k : Lookup) (still : k ≡ onward t kind owner at left) where
-  pub walk_ends : left ≤ 0 → Nobody ≡ k
+module _ (t : List ℕ) (kind owner at left : ℕ) (k : Option ℕ) (still : k ≡ onward t kind owner at left) where
+  pub walk_ends : left ≤ 0 → None ≡ k
   unfolding onward serving
   walk_ends h = sym (still ∙ rw (no_places t at left h))
 
   module _ (e : ℕ) (is : e ≡ get_or t at 0) (all : at + left ≡ 128) (some : 0 < left) where
-    pub walk_free : e < 32768 → Nobody ≡ k
+    pub walk_free : e < 32768 → None ≡ k
     unfolding onward serving
     walk_free h = sym (still ∙ rw (free_place t at left e is all some h))
 
-    pub walk_found : 32768 ≤ e → meant e kind owner ≡ true → Handler (e / 64 % 4) ≡ k
+    pub walk_found : 32768 ≤ e → meant e kind owner ≡ true → Some (e / 64 % 4) ≡ k
     unfolding onward serving
     walk_found h m = sym (still ∙ rw (entry_place t at left e is all some h) (pick_yes _ _ _ m))
 
-    pub walk_goes : 32768 ≤ e → meant e kind owner ≡ false → k ≡ onward t kind owner (at + 1) (left - 1)
-    unfolding onward serving
-    walk_goes h m = still ∙ rw (entry_place t at left e is all some h) (pick_no _ _ _ m)
+module _ (t : List ℕ) (kind owner at : ℕ) (k : Option ℕ) (still : k ≡ onward t kind owner at (128 - at)) (e : ℕ) (is : e ≡ get_or t at 0) (some : at < 128) where
+  pub walk_goes : 32768 ≤ e → meant e kind owner ≡ false → k ≡ onward t kind owner (at + 1) (128 - (at + 1))
+  unfolding onward serving
+  walk_goes h m =
+      let q : 128 - (at + 1) ≡ 128 - at - 1 = omega arith in
+      still ∙ rw (entry_place t at (128 - at) e is (omega arith) (omega arith) h, q) (pick_no _ _ _ m)
 
 pub walk_starts : (t : List ℕ) (kind owner : ℕ) → handler t kind owner ≡ onward t kind owner 0 128
 unfolding handler onward
@@ -216,11 +217,13 @@ module _ (t : List ℕ) (at left k : ℕ) (still : k ≡ counted t at left) wher
     unfolding counted
     count_free h = let z : length (entries t at left) ≡ 0 = rw (free_place t at left e is all some h) in omega arith
 
-    pub count_goes : 32768 ≤ e → k ≡ counted t (at + 1) (left - 1)
-    unfolding counted
-    count_goes h =
-        let z : length (entries t at left) ≡ suc (length (entries t (at + 1) (left - 1))) = rw (entry_place t at left e is all some h) in
-        omega arith
+module _ (t : List ℕ) (at k : ℕ) (still : k ≡ counted t at (128 - at)) (e : ℕ) (is : e ≡ get_or t at 0) (some : at < 128) where
+  pub count_goes : 32768 ≤ e → k ≡ counted t (at + 1) (128 - (at + 1))
+  unfolding counted
+  count_goes h =
+      let q : 128 - (at + 1) ≡ 128 - at - 1 = omega arith in
+      let z : length (entries t at (128 - at)) ≡ suc (length (entries t (at + 1) (128 - at - 1))) = rw (entry_place t at (128 - at) e is (omega arith) (omega arith) h) in
+      rw q (omega arith)
 
 pub count_starts : (t : List ℕ) → used t ≡ counted t 0 128
 unfolding used counted
@@ -334,11 +337,11 @@ module _ (first last kind number : ℕ) where
         let c : kind_of e ≡ kind = rw pair (omega arith) in
         cc
 
-or_else : Lookup → Lookup → Lookup
-or_else (Handler number) found = Handler number
-or_else Nobody found = found
+or_else : Option ℕ → Option ℕ → Option ℕ
+or_else (Some number) found = Some number
+or_else None found = found
 
-serving_behind : (l : List ℕ) (e kind owner : ℕ) → serving (l ++ (e ∷ [])) kind owner ≡ or_else (serving l kind owner) (pick (meant e kind owner) (Handler (number_of e)) Nobody)
+serving_behind : (l : List ℕ) (e kind owner : ℕ) → serving (l ++ (e ∷ [])) kind owner ≡ or_else (serving l kind owner) (pick (meant e kind owner) (Some (number_of e)) None)
 unfolding serving or_else pick
 serving_behind [] e kind owner = refl
 serving_behind (d ∷ l) e kind owner = either (meant d kind owner) (λ y. rw y) (λ n. rw n (serving_behind l e kind owner))
@@ -356,7 +359,7 @@ pub empty_used : used empty ≡ 0
 unfolding used
 empty_used = rw no_entries
 
-pub empty_handler : (kind owner : ℕ) → handler empty kind owner ≡ Nobody
+pub empty_handler : (kind owner : ℕ) → handler empty kind owner ≡ None
 unfolding handler serving
 empty_handler kind owner = rw no_entries
 
@@ -386,9 +389,9 @@ module _ (t : List ℕ) (first last kind number : ℕ) where
       kept a b = rw (a, b) same
 
   -- a pair that has a handler keeps it
-  pub recorded_keeps : (k o h : ℕ) → handler t k o ≡ Handler h → handler (recorded t first last kind number) k o ≡ Handler h
+  pub recorded_keeps : (k o h : ℕ) → handler t k o ≡ Some h → handler (recorded t first last kind number) k o ≡ Some h
   unfolding handler or_else
-  recorded_keeps k o h e = more_or_same (λ (l : List ℕ). serving l k o ≡ Handler h) (rw (serving_behind, e)) e
+  recorded_keeps k o h e = more_or_same (λ (l : List ℕ). serving l k o ≡ Some h) (rw (serving_behind, e)) e
 
   module _ (f : first ≤ last) (l : last ≤ last_owner) (j : kind ≤ last_kind) (n : number ≤ last_handler) where
     -- and a pair that the entry does not name has what it had
@@ -398,9 +401,9 @@ module _ (t : List ℕ) (first last kind number : ℕ) where
         more_or_same (λ (m : List ℕ). serving m k o ≡ serving (entries t 0 128) k o)
         (rw (serving_behind, entry_means first last kind number f l j n k o, unnamed first last kind k o apart, pick_no false) (alone (serving (entries t 0 128) k o))) refl
       where
-        alone : (found : Lookup) → or_else found Nobody ≡ found
-        alone (Handler h) = refl
-        alone Nobody = refl
+        alone : (found : Option ℕ) → or_else found None ≡ found
+        alone (Some h) = refl
+        alone None = refl
 
   -- where a place is free there is an entry more
   module _ (w : Sized t) (room : used t < 128) where
@@ -414,10 +417,10 @@ module _ (t : List ℕ) (first last kind number : ℕ) where
 
     -- and a pair that it names and nobody had has its handler
     pub recorded_in : first ≤ last → last ≤ last_owner → kind ≤ last_kind → number ≤ last_handler → (owner : ℕ) → first ≤ owner → owner ≤ last
-        → handler t kind owner ≡ Nobody → handler (recorded t first last kind number) kind owner ≡ Handler number
+        → handler t kind owner ≡ None → handler (recorded t first last kind number) kind owner ≡ Some number
     unfolding handler or_else
     recorded_in f l j n owner h g e =
-        rw (gained, serving_behind, e, entry_means first last kind number f l j n kind owner, naming first last kind kind owner refl h g, pick_yes true) (ap Handler (entry_number first last kind number f l j n))
+        rw (gained, serving_behind, e, entry_means first last kind number f l j n kind owner, naming first last kind kind owner refl h g, pick_yes true) (ap Some (entry_number first last kind number f l j n))
 
 -- ---- what the lookup does not look at
 -- `u` has the entries of `t` and the free place that ends them: the first used t + 1 places, or all of them where none is free

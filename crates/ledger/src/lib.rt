@@ -6,7 +6,7 @@ ghost use Rattle.tools.specs.Search.{any};
 ghost use Rattle.ledger.specs.Places.{meant};
 ghost use Rattle.ledger.specs.Ledger.{empty, handler, used, taken, recorded, Ranged, entered};
 
-use rules::{Entered, LAST_HANDLER, LAST_KIND, LAST_OWNER};
+use rules::{Fault, LAST_HANDLER, LAST_KIND, LAST_OWNER};
 
 // How many owners and handlers there are, and pairs of type and owner.
 const OWNERS: u64 = LAST_OWNER + 1;
@@ -31,13 +31,6 @@ const KIND: u64 = 1 << 14;
 
 const IN_USE: u64 = 1 << 15;
 
-// Who takes the calls of a pair.
-#[derive(Clone, Copy)]
-pub enum Lookup {
-    Handler(u64),
-    Nobody,
-}
-
 // A ledger with no entry.
 pub fn fresh() -> Ledger
     ensures { result ≡ empty }
@@ -45,15 +38,9 @@ pub fn fresh() -> Ledger
     [0; PLACES as usize]
 }
 
-// The number in two bytes.
-fn wide(x: u16) -> u64
-    ensures { (result ≡ x) × (result < 65536) }
-{
-    x as u64
-}
-
 // Whether an entry names a pair: that is not behind the entry's last, and not before its first. Where it is behind the last, the
 // whole entry is a smaller number than any that ends with the pair. The type and the first owner are compared where they stand.
+#[tactic(auto, using(crate::specs::Places::meanings))]
 fn is_meant(e: u64, kind: u64, owner: u64) -> bool
     requires fact_1 { kind ≤ 1 }
     requires fact_2 { owner ≤ 63 }
@@ -69,60 +56,54 @@ fn is_meant(e: u64, kind: u64, owner: u64) -> bool
 }
 
 // The lookup, with numbers as wide as an entry's: the walk ends at the first entry that names the pair, or at a free place.
-fn look(t: &Ledger, kind: u64, owner: u64) -> Lookup
+#[tactic(auto, using(crate::specs::Places::walking))]
+fn look(t: &Ledger, kind: u64, owner: u64) -> Option<u64>
     ensures { result ≡ handler t.now kind owner }
 {
     if LAST_KIND < kind {
-        return Lookup::Nobody;
+        return None;
     }
     if LAST_OWNER < owner {
-        return Lookup::Nobody;
+        return None;
     }
-    let mut at: u64 = 0;
-    let mut left = PLACES;
-    while 0 < left {
-        let e = wide(t[at as usize]);
+    for place in t {
+        let e = u64::from(*place);
         if e < IN_USE {
-            return Lookup::Nobody;
+            return None;
         }
         if is_meant(e, kind, owner) {
-            return Lookup::Handler(e / NUMBER % HANDLERS);
+            return Some(e / NUMBER % HANDLERS);
         }
-        at += 1;
-        left -= 1;
     }
-    Lookup::Nobody
+    None
 }
 
 // The handler of a pair, for any type and owner.
-pub fn handler_of(t: &Ledger, kind: u32, owner: u32) -> Lookup
+pub fn handler_of(t: &Ledger, kind: u32, owner: u32) -> Option<u64>
     ensures { result ≡ handler t.now kind owner }
 {
-    look(t, kind as u64, owner as u64)
+    look(t, u64::from(kind), u64::from(owner))
 }
 
 // How many places are in use: those before the first free one.
+#[tactic(auto, using(crate::specs::Places::counting))]
 pub fn used(t: &Ledger) -> u64
     ensures { result ≡ used t.now }
 {
-    let mut at: u64 = 0;
-    let mut rest = PLACES;
-    while 0 < rest {
-        let e = wide(t[at as usize]);
-        if e < IN_USE {
+    for at in 0..PLACES {
+        if u64::from(t[at as usize]) < IN_USE {
             return at;
         }
-        at += 1;
-        rest -= 1;
     }
-    at
+    PLACES
 }
 
 // Whether the pair has a handler.
+#[tactic(auto, using(crate::specs::Ledger::is_taken, crate::specs::Ledger::is_free))]
 fn is_taken(t: &Ledger, kind: u64, owner: u64) -> bool
     ensures { result ≡ taken t.now kind owner }
 {
-    let Lookup::Handler(_) = look(t, kind, owner) else {
+    let Some(_) = look(t, kind, owner) else {
         return false;
     };
     true
@@ -133,19 +114,11 @@ fn any_taken(t: &Ledger, kind: u64, first: u64, count: u64) -> bool
     requires { first + count ≤ 64 }
     ensures { result ≡ any (taken t.now kind) first count }
 {
-    let mut owner = first;
-    let mut left = count;
-    while 0 < left {
-        if is_taken(t, kind, owner) {
-            return true;
-        }
-        owner += 1;
-        left -= 1;
-    }
-    false
+    (first..first + count).any(|owner| is_taken(t, kind, owner))
 }
 
 // An entry comes to the first free place, and the place behind it is made free; where all are taken nothing changes.
+#[tactic(auto, using(crate::specs::Places::recording))]
 fn record(t: &mut Ledger, first: u64, last: u64, kind: u64, number: u64)
     requires { Ranged first last kind number }
     ensures { t.new ≡ recorded t.old first last kind number }
@@ -163,25 +136,25 @@ fn record(t: &mut Ledger, first: u64, last: u64, kind: u64, number: u64)
 }
 
 // An entry is made for all its owners or for none.
-pub fn enter(t: &mut Ledger, first: u64, last: u64, kind: u64, number: u64) -> Entered
+pub fn enter(t: &mut Ledger, first: u64, last: u64, kind: u64, number: u64) -> Result<(), Fault>
     ensures { (result, t.new) ≡ entered t.old first last kind number }
 {
     if last < first {
-        return Entered::OutOfRange;
+        return Err(Fault::OutOfRange);
     }
     if LAST_OWNER < last {
-        return Entered::OutOfRange;
+        return Err(Fault::OutOfRange);
     }
     if LAST_KIND < kind {
-        return Entered::OutOfRange;
+        return Err(Fault::OutOfRange);
     }
     if LAST_HANDLER < number {
-        return Entered::OutOfRange;
+        return Err(Fault::OutOfRange);
     }
     let count = last - first + 1;
     if any_taken(t, kind, first, count) {
-        return Entered::Taken;
+        return Err(Fault::Taken);
     }
     record(t, first, last, kind, number);
-    Entered::Accepted
+    Ok(())
 }

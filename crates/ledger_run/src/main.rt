@@ -1,8 +1,8 @@
 // Tries entries on two ledgers and looks pairs up in them, a line for each.
 #![tactic(auto)]
 
-use ledger::{Ledger, Lookup};
-use rules::Entered;
+use ledger::Ledger;
+use rules::Fault;
 use std::io;
 
 // An entry of first and last owner, type and handler; a lookup of type and owner; or how many places are in use.
@@ -21,13 +21,6 @@ fn number(rt: &impl Print, label: &str, n: u64) -> io::Result<()> {
     print!(rt; "{label}{n}")
 }
 
-fn say_entry(rt: &impl Print, first: u64, last: u64, kind: u64, handler: u64) -> io::Result<()> {
-    number(rt, "owners ", first)?;
-    number(rt, " to ", last)?;
-    number(rt, ", type ", kind)?;
-    number(rt, ", for handler ", handler)
-}
-
 fn enter(
     rt: &impl Print,
     t: &mut Ledger,
@@ -36,31 +29,29 @@ fn enter(
     kind: u64,
     handler: u64,
 ) -> io::Result<()> {
-    say_entry(rt, first, last, kind, handler)?;
+    print!(rt; "owners {first} to {last}, type {kind}, for handler {handler}")?;
     match ledger::enter(t, first, last, kind, handler) {
-        Entered::Accepted => say(rt, ": accepted\n"),
-        Entered::OutOfRange => say(rt, ": out of range\n"),
-        Entered::Taken => say(rt, ": taken\n"),
+        Ok(()) => say(rt, ": accepted\n"),
+        Err(Fault::OutOfRange) => say(rt, ": out of range\n"),
+        Err(Fault::Taken) => say(rt, ": taken\n"),
     }
 }
 
 fn look(rt: &impl Print, t: &Ledger, kind: u32, owner: u32) -> io::Result<()> {
-    number(rt, "type ", kind as u64)?;
-    number(rt, ", owner ", owner as u64)?;
+    print!(rt; "type {kind}, owner {owner}")?;
     match ledger::handler_of(t, kind, owner) {
-        Lookup::Handler(h) => number(rt, ": handler ", h)?,
-        Lookup::Nobody => say(rt, ": nobody")?,
+        Some(h) => number(rt, ": handler ", h)?,
+        None => say(rt, ": nobody")?,
     }
     say(rt, "\n")
 }
 
 fn count(rt: &impl Print, t: &Ledger) -> io::Result<()> {
-    number(rt, "places in use: ", ledger::used(t))?;
-    say(rt, "\n")
+    println!(rt; "places in use: {}", ledger::used(t))
 }
 
 // The steps on the first ledger, in their order.
-const STEPS: [Step; 28] = [
+static STEPS: [Step; 28] = [
     Step::Count,
     Step::Look(1, 4),
     // entries that name the same owners
@@ -99,7 +90,7 @@ const STEPS: [Step; 28] = [
 ];
 
 // The steps on the second: all owners of each type in one entry.
-const WHOLE: [Step; 9] = [
+static WHOLE: [Step; 9] = [
     Step::Enter(0, 63, 1, 1),
     Step::Enter(0, 63, 0, 2),
     Step::Look(1, 0),
@@ -119,16 +110,16 @@ fn play(rt: &impl Print, t: &mut Ledger, step: Step) -> io::Result<()> {
     }
 }
 
-fn main(rt: HostRuntime) -> io::Result<()> {
+// Plays steps on a ledger with no entry.
+fn play_all(rt: &impl Print, steps: &[Step]) -> io::Result<()> {
     let mut t = ledger::fresh();
-    let steps = STEPS;
-    for i in 0..28 {
-        play(&rt, &mut t, steps[i])?;
-    }
-    let mut u = ledger::fresh();
-    let whole = WHOLE;
-    for j in 0..9 {
-        play(&rt, &mut u, whole[j])?;
+    for step in steps {
+        play(rt, &mut t, *step)?;
     }
     Ok(())
+}
+
+fn main(rt: HostRuntime) -> io::Result<()> {
+    play_all(&rt, &STEPS)?;
+    play_all(&rt, &WHOLE)
 }

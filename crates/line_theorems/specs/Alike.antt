@@ -8,7 +8,7 @@ use Rattle.parsing.specs.declared.Frame.TheVariants as Frame
 use Rattle.outcomes.specs.declared.Came.{Came}
 use Rattle.outcomes.specs.declared.Came.TheVariants.{Told, Called}
 use Rattle.words.specs.Words as w
-use Rattle.phrases.specs.Sentence.{most, piece_of, blank, ◌▹◌}
+use Rattle.phrases.specs.Sentence.{most, blank, ◌▹◌}
 use Rattle.phrases.specs.Text.{right_text, piece_text, in_columns, extended, upto, text_of}
 use Rattle.phrases.specs.declared.Piece.{Piece}
 use Rattle.phrases.specs.declared.Piece.TheVariants.{Word, Number, Right, Line, Hex, Value, Column}
@@ -38,10 +38,10 @@ module _ (n m : ℕ) where
   Alike k s t = k ≤ most → Same n m k s t
 
   numbers : Alike 1 (blank ▹ Line n) (blank ▹ Line m)
-  unfolding ◌▹◌ pick piece_of upto extended
+  unfolding ◌▹◌ pick upto extended
   numbers h = record {
-    first = record { few = omega arith; kinds_long = refl; values_long = refl };
-    second = record { few = omega arith; kinds_long = refl; values_long = refl };
+    first = record { few = omega arith; all_long = refl };
+    second = record { few = omega arith; all_long = refl };
     wide = refl;
     apart = record { tail = []; left = sym (append-nil (right_text 0 n)); right = sym (append-nil (right_text 0 m)) };
   }
@@ -167,7 +167,7 @@ module _ (base : List ℕ) where
 
 alone : (s : Sentence) → Long 20 s → Beside (whole s).0 20 s blank
 unfolding upto
-alone s l = record { first = l; second = record { few = omega arith; kinds_long = refl; values_long = refl }; is = sym (append-nil (whole s).0) }
+alone s l = record { first = l; second = record { few = omega arith; all_long = refl }; is = sym (append-nil (whole s).0) }
 
 came_beside : (s : Sentence) (accepted range clash done : ℕ) (c : Came) (now : ℕ) (t : Sentence) → Long 20 (s ▹ Column 72) → t ≡ came_by accepted range clash done c now
     → Beside (whole (s ▹ Column 72)).0 25 (came_said s accepted range clash done c now) t

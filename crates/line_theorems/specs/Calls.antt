@@ -10,7 +10,7 @@ use Rattle.hex_digits.specs.Signs.{signs}
 use Rattle.writing.specs.Decimal.{in_decimal}
 use Rattle.writing.specs.Put.{row, blanks}
 use Rattle.words.specs.Words.{words, word_text}
-use Rattle.phrases.specs.Sentence.{piece_of, blank, ◌▹◌}
+use Rattle.phrases.specs.Sentence.{blank, ◌▹◌}
 use Rattle.phrases.specs.Text.{hex_text, value_text, extended, upto, text_of}
 use Rattle.asking.specs.Names.{named_from, counted}
 use Rattle.asking.specs.Forms.{forms, key_at, row_at, is_form, form, register, valued, slot, slots, asked}
@@ -53,7 +53,7 @@ pub each_call :
     ∷ (0 ∷ 1 ∷ [], "call 00000000 with 01 00 00")
     ∷ []
     )
-unfolding asked slots slot valued register form is_form key_at row_at forms first named_from counted text_of upto extended piece_of ◌▹◌ hex_text value_text blanks row word_text words in_decimal in_hex sign_of args_of argument parts key_of identifier_of pick
+unfolding asked slots slot valued register form is_form key_at row_at forms first named_from counted text_of upto extended ◌▹◌ hex_text value_text blanks row word_text words in_decimal in_hex sign_of args_of argument parts key_of identifier_of pick
 each_call = refl
 
 -- calls that were handed over, whatever their number
@@ -65,5 +65,5 @@ pub each_handed :
     ∷ (0xc400018f ∷ 1 ∷ 2 ∷ 3 ∷ 4 ∷ 5 ∷ [], "call c400018f with 01 02 03")
     ∷ []
     )
-unfolding asked slots slot valued register form is_form key_at row_at forms first named_from counted text_of upto extended piece_of ◌▹◌ hex_text value_text blanks row word_text words in_decimal in_hex sign_of args_of argument parts key_of identifier_of pick
+unfolding asked slots slot valued register form is_form key_at row_at forms first named_from counted text_of upto extended ◌▹◌ hex_text value_text blanks row word_text words in_decimal in_hex sign_of args_of argument parts key_of identifier_of pick
 each_handed = refl

@@ -15,7 +15,7 @@ use Rattle.writing.specs.Put.{row, blanks}
 use Rattle.hex_digits.specs.Signs.{signs}
 use Rattle.words.specs.Words.{words, word_text}
 use Rattle.words.specs.Words as w
-use Rattle.phrases.specs.Sentence.{piece_of, ◌▹◌}
+use Rattle.phrases.specs.Sentence.{◌▹◌}
 use Rattle.phrases.specs.Text.{right_text, gap_text, extended, upto, text_of}
 use Rattle.phrases.specs.declared.Piece.TheVariants.{Word, Column}
 use Rattle.asking.specs.Names.{named_from}
@@ -100,15 +100,15 @@ chained l x [] = refl
 chained l x (y ∷ ys) = ap (λ (m : List ℕ). chain m ys) (append_assoc l x y) ∙ chained l (x ++ y) ys ∙ ap (λ (m : List ℕ). l ++ m) (joined_more x y ys)
 
 setup_text : (n : ℕ) → (whole (setup_line n)).0 ≡ right_text 0 n ++ signs " set-up         "
-unfolding chain joined ◌▹◌ pick piece_of upto extended gap_text blanks row word_text words
+unfolding chain joined ◌▹◌ pick upto extended gap_text blanks row word_text words
 setup_text n = chained (right_text 0 n) (gap_text 6 7) (word_text w.setup ∷ gap_text 13 22 ∷ [])
 
 refused_text : (n : ℕ) → (whole (opening n ▹ Word w.no_frame ▹ Column 22)).0 ≡ right_text 0 n ++ signs " no frame       "
-unfolding chain joined ◌▹◌ pick piece_of upto extended gap_text blanks row word_text words
+unfolding chain joined ◌▹◌ pick upto extended gap_text blanks row word_text words
 refused_text n = chained (right_text 0 n) (gap_text 6 7) (word_text w.no_frame ∷ gap_text 15 22 ∷ [])
 
 core_pieces : (n core : ℕ) → (whole (on_core n core ▹ Column 22)).0 ≡ right_text 0 n ++ (signs " core " ++ (decimal_text core ++ gap_text (12 + length (decimal_text core)) 22))
-unfolding chain joined ◌▹◌ pick piece_of upto extended gap_text blanks row word_text words
+unfolding chain joined ◌▹◌ pick upto extended gap_text blanks row word_text words
 core_pieces n core = chained (right_text 0 n) (gap_text 6 7) (word_text w.core ∷ decimal_text core ∷ gap_text (12 + length (decimal_text core)) 22 ∷ [])
 
 core_text_lem : (n core : ℕ) → core < 256 → (whole (on_core n core ▹ Column 22)).0 ≡ right_text 0 n ++ core_text core
@@ -124,7 +124,7 @@ spoken_text core d caller =
     signs " core " ++ (decimal_text core ++ (gap_text (12 + d) 14 ++ (word_text caller ++ (signs ":" ++ gap_text (12 + d + length (gap_text (12 + d) 14) + length (word_text caller) + 1) 22))))
 
 called_pieces : (n core caller : ℕ) (a : Answer) → caller < 4 → (whole (speaker n core (Called (record { caller = caller; answer = a })))).0 ≡ right_text 0 n ++ spoken_text core (length (decimal_text core)) caller
-unfolding chain joined ◌▹◌ pick piece_of upto extended gap_text blanks row word_text words named_from
+unfolding chain joined ◌▹◌ pick upto extended gap_text blanks row word_text words named_from
 called_pieces n core caller a g =
     let d = length (decimal_text core) in
     let from : ℕ → List (List ℕ) =

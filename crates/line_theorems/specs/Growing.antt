@@ -5,38 +5,27 @@ use Rattle.std.proofs.Common.{◌∙◌, arith, length-set, get_or-set_same, get
 use mathlib.Core.List.{List, ◌++◌}
 use Prim.Native.Nat.{ℕ, zero, suc, ◌+◌, ◌≤◌, ◌<◌}
 use Rattle.rules.specs.Choice.{pick, pick_yes}
-use Rattle.phrases.specs.Sentence.{most, kind_of, value_of, piece_of, piece_at, ◌▹◌}
+use Rattle.phrases.specs.Sentence.{most, piece_at, ◌▹◌}
 use Rattle.phrases.specs.Text.{piece_text, in_columns, extended, upto, text_of}
 use Rattle.phrases.specs.declared.Piece.{Piece}
-use Rattle.phrases.specs.declared.Piece.TheVariants.{Word, Number, Right, Line, Hex, Value, Column}
+use Rattle.phrases.specs.declared.Piece.TheVariants.{Word}
 use Rattle.phrases.specs.declared.Sentence.{Sentence}
 
 -- all pieces of a sentence: their text, and how many of its signs count for the columns
 abbrev pub whole : Sentence → List ℕ × ℕ
 whole s = upto s s.count
 
--- a piece is what its two numbers stand for
-piece_back : (p : Piece) → piece_of (kind_of p) (value_of p) ≡ p
-unfolding piece_of pick
-piece_back (Word x) = refl
-piece_back (Number x) = refl
-piece_back (Right x) = refl
-piece_back (Line x) = refl
-piece_back (Hex x) = refl
-piece_back (Value x) = refl
-piece_back (Column x) = refl
-
-module _ (s : Sentence) (p : Piece) (room : s.count < most) (ks : length s.kinds ≡ most) (vs : length s.values ≡ most) where
+module _ (s : Sentence) (p : Piece) (room : s.count < most) (ps : length s.pieces ≡ most) where
   abbrev pub grown : Sentence
-  grown = record { kinds = set s.kinds s.count (kind_of p); values = set s.values s.count (value_of p); count = s.count + 1 }
+  grown = record { pieces = set s.pieces s.count p; count = s.count + 1 }
 
   before : (i : ℕ) → i < s.count → piece_at grown i ≡ piece_at s i
   before i h =
       let n : (i ≡ s.count → ⊥) = λ e. absurd (omega arith) in
-      rw (get_or-set_other s.kinds s.count i (kind_of p) 0 n, get_or-set_other s.values s.count i (value_of p) 0 n)
+      get_or-set_other s.pieces s.count i p (Word 0) n
 
   last : piece_at grown s.count ≡ p
-  last = rw (get_or-set_same s.kinds s.count (kind_of p) 0 (omega arith), get_or-set_same s.values s.count (value_of p) 0 (omega arith)) (piece_back p)
+  last = get_or-set_same s.pieces s.count p (Word 0) (omega arith)
 
   upto_before : (i : ℕ) → i ≤ s.count → upto grown i ≡ upto s i
   unfolding upto
@@ -53,32 +42,30 @@ module _ (s : Sentence) (p : Piece) (room : s.count < most) (ks : length s.kinds
 -- ---- the same of a sentence that has at most so many pieces
 pub record Long (k : ℕ) (s : Sentence) : Type 0 where
   pub few : s.count ≤ k
-  pub kinds_long : length s.kinds ≡ most
-  pub values_long : length s.values ≡ most
+  pub all_long : length s.pieces ≡ most
 
 module _ (k : ℕ) (s : Sentence) (p : Piece) (l : Long k s) (h : k < most) where
-  is_grown : (s ▹ p) ≡ grown s p (omega (arith, l.few)) l.kinds_long l.values_long
+  is_grown : (s ▹ p) ≡ grown s p (omega (arith, l.few)) l.all_long
   unfolding ◌▹◌
   is_grown = pick_yes _ _ s (lt-ltb s.count most (omega (arith, l.few)))
 
   pub long_more : Long (suc k) (s ▹ p)
   long_more = rw is_grown (record {
     few = omega (arith, l.few);
-    kinds_long = length-set s.kinds s.count (kind_of p) ∙ l.kinds_long;
-    values_long = length-set s.values s.count (value_of p) ∙ l.values_long;
+    all_long = length-set s.pieces s.count p ∙ l.all_long;
   })
 
   pub text_more : (whole (s ▹ p)).0 ≡ (whole s).0 ++ piece_text (whole s).1 p
   unfolding extended
-  text_more = ap (λ (t : Sentence). (whole t).0) is_grown ∙ ap (λ (q : List ℕ × ℕ). q.0) (whole_more s p (omega (arith, l.few)) l.kinds_long l.values_long)
+  text_more = ap (λ (t : Sentence). (whole t).0) is_grown ∙ ap (λ (q : List ℕ × ℕ). q.0) (whole_more s p (omega (arith, l.few)) l.all_long)
 
   pub signs_more : (whole (s ▹ p)).1 ≡ (whole s).1 + in_columns p (length (piece_text (whole s).1 p))
   unfolding extended
-  signs_more = ap (λ (t : Sentence). (whole t).1) is_grown ∙ ap (λ (q : List ℕ × ℕ). q.1) (whole_more s p (omega (arith, l.few)) l.kinds_long l.values_long)
+  signs_more = ap (λ (t : Sentence). (whole t).1) is_grown ∙ ap (λ (q : List ℕ × ℕ). q.1) (whole_more s p (omega (arith, l.few)) l.all_long)
 
 -- fewer than fit
 pub within : (k l : ℕ) (s : Sentence) → Long k s → k ≤ l → Long l s
-within k l s h g = record { few = omega (arith, h.few); kinds_long = h.kinds_long; values_long = h.values_long }
+within k l s h g = record { few = omega (arith, h.few); all_long = h.all_long }
 
 -- then the text is that of all pieces
 pub text_whole : (k : ℕ) (s : Sentence) → Long k s → k < most → text_of s ≡ (whole s).0

@@ -3,10 +3,10 @@ use Rattle.std.specs.Prelude.{◌≡◌, refl, [], ◌∷◌, ◌++◌, ℕ, zer
 use Rattle.std.proofs.Common.{pow-suc, length-take-le, lt-ltb, le-ltb, ltb-true, ltb-false}
 use native.Mathlib.Omega.{arith}
 use Rattle.std.proofs.Math.ListN.{length-append}
-use Rattle.rules.specs.Choice.{either, pick_yes, pick_no}
+use Rattle.rules.specs.Choice.{pick, picked, passed, either, pick_yes, pick_no}
 use Rattle.writing.specs.Decimal.{in_decimal, decimal_text}
 use Rattle.writing.specs.Put.{row, blanks}
-use Rattle.phrases.specs.Text.{indent, right_text, indent_five, indent_four, indent_three, indent_two, indent_one, indent_none}
+use Rattle.phrases.specs.Text.{indent, right_text}
 
 -- the digits past the sixth
 abbrev pub past : ℕ → ℕ
@@ -37,6 +37,38 @@ digits_below (suc k) (suc m) x h =
 -- up to line 999,999 there is none
 pub past_none : (n : ℕ) → n < 1000000 → past n ≡ 0
 past_none n h = omega (arith, digits_below 5 20 n h)
+
+-- ---- how many blanks stand before a number, by its size
+module _ (x : ℕ) where
+  indent_five : x < 10 → 5 ≡ indent x
+  unfolding indent
+  indent_five h = picked _ _ _ _ (lt-ltb x 10 h) refl
+
+  module _ (more : 10 ≤ x) where
+    past_one : (a b n : ℕ) → n ≡ b → n ≡ pick (ltb x 10) a b
+    past_one a b n e = passed _ _ _ _ (le-ltb x 10 more) e
+
+    indent_four : x < 100 → 4 ≡ indent x
+    unfolding indent
+    indent_four h = past_one _ _ _ (picked _ _ _ _ (lt-ltb x 100 h) refl)
+
+    indent_three : 100 ≤ x → x < 1000 → 3 ≡ indent x
+    unfolding indent
+    indent_three g h = past_one _ _ _ (passed _ _ _ _ (le-ltb x 100 g) (picked _ _ _ _ (lt-ltb x 1000 h) refl))
+
+    indent_two : 1000 ≤ x → x < 10000 → 2 ≡ indent x
+    unfolding indent
+    indent_two g h = past_one _ _ _ (passed _ _ _ _ (le-ltb x 100 (omega arith)) (passed _ _ _ _ (le-ltb x 1000 g) (picked _ _ _ _ (lt-ltb x 10000 h) refl)))
+
+    indent_one : 10000 ≤ x → x < 100000 → 1 ≡ indent x
+    unfolding indent
+    indent_one g h =
+        past_one _ _ _ (passed _ _ _ _ (le-ltb x 100 (omega arith)) (passed _ _ _ _ (le-ltb x 1000 (omega arith)) (passed _ _ _ _ (le-ltb x 10000 g) (picked _ _ _ _ (lt-ltb x 100000 h) refl))))
+
+    indent_none : 100000 ≤ x → 0 ≡ indent x
+    unfolding indent
+    indent_none g =
+        past_one _ _ _ (passed _ _ _ _ (le-ltb x 100 (omega arith)) (passed _ _ _ _ (le-ltb x 1000 (omega arith)) (passed _ _ _ _ (le-ltb x 10000 (omega arith)) (passed _ _ _ _ (le-ltb x 100000 g) refl))))
 
 -- ---- the room
 pub blanks_long : (n : ℕ) → n ≤ 96 → length (blanks n) ≡ n

@@ -5,7 +5,7 @@ use Rattle.std.proofs.Common.{sym, ap, ◌∙◌, append-nil, append_assoc, arit
 use Rattle.rules.specs.Choice.{pick, yes_or_no}
 use Rattle.parsing.specs.declared.Frame.{Frame}
 use Rattle.outcomes.specs.declared.Came.{Came}
-use Rattle.phrases.specs.Sentence.{most, piece_of, blank, ◌▹◌}
+use Rattle.phrases.specs.Sentence.{most, blank, ◌▹◌}
 use Rattle.phrases.specs.Text.{right_text, piece_text, in_columns, extended, upto}
 use Rattle.phrases.specs.declared.Piece.{Piece}
 use Rattle.phrases.specs.declared.Piece.TheVariants.{Word, Number, Right, Line, Hex, Value, Column}
@@ -34,8 +34,8 @@ pub record Has (line : ℕ) (base : List ℕ) (k : ℕ) (s : Sentence) : Type 0 
 
 -- its number alone
 start : (line : ℕ) → Has line [] 1 (blank ▹ Line line)
-unfolding ◌▹◌ pick piece_of upto extended
-start line = record { long = record { few = omega arith; kinds_long = refl; values_long = refl }; signs = number_room line; rest = right_text 0 line; begins = refl }
+unfolding ◌▹◌ pick upto extended
+start line = record { long = record { few = omega arith; all_long = refl }; signs = number_room line; rest = right_text 0 line; begins = refl }
 
 -- all of a sentence as the text that it begins with
 based : (line k : ℕ) (base : List ℕ) (s : Sentence) → Has line base k s → Has line (whole s).0 k s

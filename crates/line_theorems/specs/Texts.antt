@@ -20,7 +20,7 @@ use Rattle.writing.specs.Decimal.{in_decimal}
 use Rattle.writing.specs.Put.{row, blanks}
 use Rattle.words.specs.Words.{words, word_text}
 use Rattle.words.specs.Words as w
-use Rattle.phrases.specs.Sentence.{piece_of, blank, ◌▹◌}
+use Rattle.phrases.specs.Sentence.{blank, ◌▹◌}
 use Rattle.phrases.specs.Text.{indent, right_text, hex_text, value_text, gap_text, extended, upto, text_of}
 use Rattle.asking.specs.Names.{named_from, counted}
 use Rattle.asking.specs.Forms.{forms, key_at, row_at, is_form, form, register, valued, slot, slots, asked, done_word}
@@ -60,7 +60,7 @@ pub answers :
     ∷ (answer Answer.Silent w.granted 255, "the core is OFF now")
     ∷ []
     )
-unfolding turned named_from text_of upto extended piece_of ◌▹◌ right_text indent hex_text gap_text blanks row word_text words in_decimal in_hex sign_of pick
+unfolding turned named_from text_of upto extended ◌▹◌ right_text indent hex_text gap_text blanks row word_text words in_decimal in_hex sign_of pick
 answers = refl
 
 -- ---- reasons
@@ -87,7 +87,7 @@ pub reasons :
     ∷ (refused Beyond, "refused -34, past the limits")
     ∷ []
     )
-unfolding text_of upto extended piece_of ◌▹◌ right_text indent hex_text gap_text blanks row word_text words in_decimal in_hex sign_of pick
+unfolding text_of upto extended ◌▹◌ right_text indent hex_text gap_text blanks row word_text words in_decimal in_hex sign_of pick
 reasons = refl
 
 -- ---- lines
@@ -123,7 +123,7 @@ pub statuses :
     ∷ (line (Frame.Refused Unknown) [] (Told Unknown) 255, "     7 no frame       of an unknown kind, or a wrong length             refused 72")
     ∷ []
     )
-unfolding sentence_of asked done_word slots slot valued register form is_form key_at row_at forms first named_from counted text_of upto extended piece_of ◌▹◌ right_text indent hex_text value_text gap_text blanks row word_text words in_decimal in_hex sign_of pick args_of argument parts key_of identifier_of
+unfolding sentence_of asked done_word slots slot valued register form is_form key_at row_at forms first named_from counted text_of upto extended ◌▹◌ right_text indent hex_text value_text gap_text blanks row word_text words in_decimal in_hex sign_of pick args_of argument parts key_of identifier_of
 statuses = refl
 
 -- the names of set-up, and one of something
@@ -141,7 +141,7 @@ pub set_up :
     ∷ (line (Frame.Name 3 2 4) [] (Told Accepted) 255, "     7 set-up         2 pages from page 3 for owner 4                   accepted")
     ∷ []
     )
-unfolding sentence_of named_from counted text_of upto extended piece_of ◌▹◌ right_text indent hex_text gap_text blanks row word_text words in_decimal in_hex sign_of pick
+unfolding sentence_of named_from counted text_of upto extended ◌▹◌ right_text indent hex_text gap_text blanks row word_text words in_decimal in_hex sign_of pick
 set_up = refl
 
 -- calls that were accepted
@@ -165,7 +165,7 @@ pub calls :
     ∷ (line (Frame.Call 0) (0xc4000004 ∷ 1 ∷ 0 ∷ []) (made 2 Answer.Off) 2, "     7 core 0 Normal: tell the state of core 1 at level 0               answered 1, OFF")
     ∷ []
     )
-unfolding sentence_of turned asked done_word slots slot valued register form is_form key_at row_at forms first named_from counted text_of upto extended piece_of ◌▹◌ right_text indent hex_text value_text gap_text blanks row word_text words in_decimal in_hex sign_of pick args_of argument parts key_of identifier_of
+unfolding sentence_of turned asked done_word slots slot valued register form is_form key_at row_at forms first named_from counted text_of upto extended ◌▹◌ right_text indent hex_text value_text gap_text blanks row word_text words in_decimal in_hex sign_of pick args_of argument parts key_of identifier_of
 calls = refl
 
 -- far into a run: the columns are the same up to a number of six signs, and move together behind a longer one
@@ -182,5 +182,5 @@ pub long_runs :
     ∷ (far 1000001 3 Answer.Done, "1000001 core 0 Realm:  take the page at 80003000                         granted")
     ∷ []
     )
-unfolding sentence_of asked done_word slots slot valued register form is_form key_at row_at forms first named_from counted text_of upto extended piece_of ◌▹◌ right_text indent hex_text value_text gap_text blanks row word_text words in_decimal in_hex sign_of pick args_of argument parts key_of identifier_of
+unfolding sentence_of asked done_word slots slot valued register form is_form key_at row_at forms first named_from counted text_of upto extended ◌▹◌ right_text indent hex_text value_text gap_text blanks row word_text words in_decimal in_hex sign_of pick args_of argument parts key_of identifier_of
 long_runs = refl

@@ -1,10 +1,12 @@
 -- What an input is read as: the frames of its lines. And the line at a place, as the code finds it.
 use Rattle.std.proofs.Math.Path.{◌≡◌, refl, ap}
 use Rattle.std.proofs.Common.{sym, arith}
-use Rattle.std.specs.Prelude.{Bool, ℕ, ◌+◌, ◌-◌, ◌≤◌, ◌<◌, length}
+use Rattle.std.specs.Prelude.{Bool, ℕ, ◌+◌, ◌-◌, ◌≤◌, ◌<◌, length, None, Option}
 use mathlib.Core.List.{List, []}
 use Rattle.std.proofs.Math.Dec.{ltb}
 use borrow.Author.Tests.{ltb-true, ltb-false}
+use Rattle.lines.specs.Next.{Line, line_frame, line_after}
+use Rattle.lines.specs.declared.Next.{Next}
 use Rattle.rules.specs.Choice.{pick, by}
 use Rattle.parsing.specs.Frame.{is_call, numbers_of, parsed, long_line, other_parsed, parsed_frame, parsed_call}
 use Rattle.lines.specs.Lines.{end_of, line_at, lined, next_of, end_from}
@@ -12,8 +14,6 @@ use Rattle.lines.specs.Meant.{meant, Blind, blind_by}
 use Rattle.parsing.specs.declared.Status.TheVariants.{NoHex}
 use Rattle.parsing.specs.declared.Frame.{Frame}
 use Rattle.parsing.specs.declared.Frame.TheVariants.{Refused}
-use Rattle.lines.specs.declared.Next.{Next}
-use Rattle.lines.specs.declared.Next.TheVariants.{Line, Unfinished}
 
 -- a line by itself: its frame, and the eight numbers of a call
 abbrev pub reading : List ℕ → Frame × List ℕ
@@ -47,32 +47,32 @@ module _ (s xs ys : List ℕ) (at : ℕ) where
   pub next_found : (f : Frame) (after : ℕ) → (Line f after, ys) ≡ next_of s at xs → Found s at xs f after ys
   unfolding next_of pick
   next_found f after e =
-      by (λ (b : Bool). ltb (end_of s at) (length s) ≡ b → (Line f after, ys) ≡ pick b (lined (parsed (line_at s at) xs) (end_of s at + 1)) (Unfinished, xs) → Found s at xs f after ys)
+      by (λ (b : Bool). ltb (end_of s at) (length s) ≡ b → (Line f after, ys) ≡ pick b (lined (parsed (line_at s at) xs) (end_of s at + 1)) (None, xs) → Found s at xs f after ys)
       (ltb (end_of s at) (length s))
       (λ y h g.
-      let n : Line f after ≡ Line (parsed (line_at s at) xs).0 (end_of s at + 1) = ap (λ (q : Next × List ℕ). q.0) g in
-      let z : ys ≡ (parsed (line_at s at) xs).1 = ap (λ (q : Next × List ℕ). q.1) g in
-      let m : f ≡ (parsed (line_at s at) xs).0 = cc in
-      record { whole = ltb-true _ _ h; next = cc; is = rw (m, z) })
-      (λ y h g. let n : Line f after ≡ Unfinished = ap (λ (q : Next × List ℕ). q.0) g in absurd (let z : ◌≡◌ {A = ℕ} 0 1 = cc in omega arith))
+      let n : Line f after ≡ Line (parsed (line_at s at) xs).0 (end_of s at + 1) = ap (λ (q : Option Next × List ℕ). q.0) g in
+      let z : ys ≡ (parsed (line_at s at) xs).1 = ap (λ (q : Option Next × List ℕ). q.1) g in
+      let m : f ≡ (parsed (line_at s at) xs).0 = line_frame n in
+      record { whole = ltb-true _ _ h; next = line_after n; is = rw (m, z) })
+      (λ y h g. let n : Line f after ≡ None = ap (λ (q : Option Next × List ℕ). q.0) g in absurd (let z : ◌≡◌ {A = ℕ} 0 1 = cc in omega arith))
       refl e
 
-  pub next_unfinished : (Unfinished, ys) ≡ next_of s at xs → (length s ≤ end_of s at) × (ys ≡ xs)
+  pub next_unfinished : (None, ys) ≡ next_of s at xs → (length s ≤ end_of s at) × (ys ≡ xs)
   unfolding next_of pick
   next_unfinished e =
-      by (λ (b : Bool). ltb (end_of s at) (length s) ≡ b → (Unfinished, ys) ≡ pick b (lined (parsed (line_at s at) xs) (end_of s at + 1)) (Unfinished, xs) → (length s ≤ end_of s at) × (ys ≡ xs))
+      by (λ (b : Bool). ltb (end_of s at) (length s) ≡ b → (None, ys) ≡ pick b (lined (parsed (line_at s at) xs) (end_of s at + 1)) (None, xs) → (length s ≤ end_of s at) × (ys ≡ xs))
       (ltb (end_of s at) (length s))
       (λ y h g.
-      let n : Unfinished ≡ Line (parsed (line_at s at) xs).0 (end_of s at + 1) = ap (λ (q : Next × List ℕ). q.0) g in
+      let n : None ≡ Line (parsed (line_at s at) xs).0 (end_of s at + 1) = ap (λ (q : Option Next × List ℕ). q.0) g in
       absurd (let z : ◌≡◌ {A = ℕ} 0 1 = cc in omega arith))
-      (λ y h g. (ltb-false _ _ h, ap (λ (q : Next × List ℕ). q.1) g))
+      (λ y h g. (ltb-false _ _ h, ap (λ (q : Option Next × List ℕ). q.1) g))
       refl e
 
   pub next_inside : (f : Frame) (after : ℕ) → (Line f after, ys) ≡ next_of s at xs → (at < after) × (after ≤ length s)
   next_inside f after e = let d = next_found f after e in (omega (arith, d.next, end_from s at), omega (arith, d.next, d.whole))
 
 -- ---- where the line at a place lies
-module _ (s xs ys : List ℕ) (at : ℕ) (next : Next) (e : (next, ys) ≡ next_of s at xs) (fr : Frame) (after : ℕ) (is : next ≡ Line fr after) where
+module _ (s xs ys : List ℕ) (at : ℕ) (next : Option Next) (e : (next, ys) ≡ next_of s at xs) (fr : Frame) (after : ℕ) (is : next ≡ Line fr after) where
   inside : (at < after) × (after ≤ length s)
   inside = next_inside s xs ys at fr after (rw is at e)
 

@@ -1,3 +1,4 @@
+pub mod Next
 pub mod Quick
 pub mod Lines
 pub mod Parts

@@ -1,10 +1,12 @@
 -- The lines of an input, and the line at a place of what was read of it.
-use Rattle.std.specs.Prelude.{◌≡◌, Bool, true, false, ℕ, suc, ◌+◌, ◌-◌, ◌≤◌, ◌<◌, ltb, eqb, length, get_or, take, drop}
+use Rattle.std.specs.Prelude.{◌≡◌, Bool, true, false, ℕ, suc, ◌+◌, ◌-◌, ◌≤◌, ◌<◌, ltb, eqb, length, get_or, take, drop, None, Option}
 use Rattle.std.proofs.Math.Path.{refl}
 use Rattle.std.proofs.Common.{sym, ap, ◌∙◌, ⊎_elim, eq-or-lt_of_le, arith, length-take, length-drop, length-take-le, get_or-take, get_or-drop, drop-drop, lt-ltb, le-ltb, eq-eqb, ne_eqb, eqb-true, ltb-true, ltb-false}
 use mathlib.Core.List.{List, [], ◌∷◌, ◌++◌, append_assoc}
 use Rattle.std.proofs.Math.Seq.{split_at}
 use Rattle.std.proofs.lemmas.Bool.{eqb-false}
+use Rattle.lines.specs.Next.{Line}
+use Rattle.lines.specs.declared.Next.{Next}
 use Rattle.rules.specs.Choice.{pick, picked, passed, either, yes_or_no}
 use Rattle.tools.specs.Search.{all_at, first, first_goes, first_stops, first_ends, first_is, Firstly}
 use Rattle.hex_digits.specs.Hex.{digit_of, digit_at, all_digits}
@@ -14,9 +16,6 @@ use Rattle.parsing.specs.declared.Frame.{Frame}
 use Rattle.parsing.specs.declared.Frame.TheVariants.{Call, Refused}
 use Rattle.parsing.specs.declared.Status.TheVariants.{NoHex}
 use Rattle.lines.specs.declared.Look.{Look}
-use Rattle.lines.specs.declared.Look.TheVariants as Look
-use Rattle.lines.specs.declared.Next.{Next}
-use Rattle.lines.specs.declared.Next.TheVariants.{Line, Unfinished}
 
 -- a byte before lines belongs to the first of them
 unfoldable pub before : ℕ → List (List ℕ) → List (List ℕ)
@@ -43,12 +42,12 @@ part s from to = take (to - from) (drop from s)
 abbrev pub line_at : List ℕ → ℕ → List ℕ
 line_at s at = part s at (end_of s at)
 
-abbrev pub lined : Frame × List ℕ → ℕ → Next × List ℕ
+abbrev pub lined : Frame × List ℕ → ℕ → Option Next × List ℕ
 lined p after = (Line p.0 after, p.1)
 
 -- the line at a place, parsed, and where the next one starts; nothing where its newline is not there
-unfoldable pub next_of : List ℕ → ℕ → List ℕ → Next × List ℕ
-next_of s at xs = pick (ltb (end_of s at) (length s)) (lined (parsed (line_at s at) xs) (end_of s at + 1)) (Unfinished, xs)
+unfoldable pub next_of : List ℕ → ℕ → List ℕ → Option Next × List ℕ
+next_of s at xs = pick (ltb (end_of s at) (length s)) (lined (parsed (line_at s at) xs) (end_of s at + 1)) (None, xs)
 
 -- ---- the search for the end of a line, byte by byte
 abbrev pub Ahead : List ℕ → ℕ → ℕ → Type 0
@@ -102,7 +101,7 @@ module _ (s xs : List ℕ) (at e : ℕ) where
   unfolding next_of
   next_found f ys d h p = picked _ _ _ _ (lt-ltb (end_of s at) (length s) (omega arith)) (ap (λ (q : Frame × List ℕ). lined q (e + 1)) p ∙ rw d)
 
-  pub next_none : e ≡ end_of s at → length s ≤ e → (Unfinished, xs) ≡ next_of s at xs
+  pub next_none : e ≡ end_of s at → length s ≤ e → (None, xs) ≡ next_of s at xs
   unfolding next_of
   next_none d h = passed _ _ _ _ (le-ltb (end_of s at) (length s) (omega arith)) refl
 
@@ -110,7 +109,7 @@ module _ (s xs : List ℕ) (at e : ℕ) where
 pub next_spoilt : (s xs : List ℕ) (at e end : ℕ) → end ≡ end_of s at → end ≡ e → e < length s → all_digits (part s at e) ≡ false → (Line (Refused NoHex) (e + 1), xs) ≡ next_of s at xs
 next_spoilt s xs at e end d z h n = next_found s xs at e (Refused NoHex) xs (sym z ∙ d) h (other_parsed (part s at e) xs (Refused NoHex) (no_digits (part s at e) n) refl)
 
-pub next_past : (s xs : List ℕ) (at : ℕ) → length s < at → (Unfinished, xs) ≡ next_of s at xs
+pub next_past : (s xs : List ℕ) (at : ℕ) → length s < at → (None, xs) ≡ next_of s at xs
 next_past s xs at h = next_none s xs at (end_of s at) refl (omega (arith, end_from s at))
 
 pub end_low : (s : List ℕ) (at e : ℕ) → e ≡ end_of s at → at ≤ e
@@ -143,10 +142,10 @@ module _ (s xs ys : List ℕ) (at e : ℕ) (look : Look) (n : e ≡ at + 132) (h
       (end_is s at e (omega arith) h g (λ k a b z. digits_no_newline (part s at e) (k - at) d (omega arith) (part_at s at e k a b ∙ z)))
       h p
 
-  pub next_other : (r : Next × List ℕ) → look ≡ Look.Other → r ≡ next_of s at ys → r ≡ next_of s at xs
+  pub next_other : (r : Option Next × List ℕ) → look ≡ Look.Other → r ≡ next_of s at ys → r ≡ next_of s at xs
   next_other r c g = let p : ys ≡ xs = rw c at q in g ∙ ap (next_of s at) p
 
-  pub next_no_hex : (r : Next × List ℕ) → look ≡ Look.NoHex → r ≡ next_of s at ys → r ≡ next_of s at xs
+  pub next_no_hex : (r : Option Next × List ℕ) → look ≡ Look.NoHex → r ≡ next_of s at ys → r ≡ next_of s at xs
   next_no_hex r c g = let p : (all_digits (part s at e) ≡ false) × (ys ≡ xs) = rw c at q in g ∙ ap (next_of s at) p.1
 
 -- ---- the lines of an input, one after the other

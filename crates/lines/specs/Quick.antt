@@ -1,5 +1,5 @@
 -- A line of 132 signs, looked at at once: a call and its numbers, or none.
-use Rattle.std.specs.Prelude.{◌≡◌, true, ◌&&◌, ℕ, zero, suc, ◌+◌, length}
+use Rattle.std.specs.Prelude.{◌≡◌, true, ◌&&◌, ℕ, zero, suc, ◌+◌, length, Option, Some}
 use Rattle.std.proofs.Math.Path.{refl}
 use Rattle.std.proofs.Common.{sym, ap, ◌∙◌, arith, add-zero, zero-add, suc-add}
 use Rattle.std.proofs.Math.Bool.{Bool, false}
@@ -12,9 +12,6 @@ use Rattle.hex_read.specs.Many.{eight, eight_was, eight_left}
 use Rattle.parsing.specs.Frame.{call_in, kind, frame_of, parsed, sized_yes, row, hex_line, call_parsed}
 use Rattle.parsing.specs.declared.Frame.TheVariants.{Call}
 use Rattle.lines.specs.declared.Look.{Look}
-use Rattle.lines.specs.declared.Look.TheVariants as Look
-use Rattle.hex_digits.specs.declared.Byte.{Byte}
-use Rattle.hex_digits.specs.declared.Byte.TheVariants.{Is}
 
 -- a call is what is parsed; all else leaves the numbers, and it may be known that not all signs are digits
 abbrev pub Looked : List ℕ → List ℕ → Look → List ℕ → Type 0
@@ -38,7 +35,7 @@ module _ (l xs ys : List ℕ) (h : length l ≡ 132) where
   whole a b c = rw h (all_parts (digit_at l) 0 2 130 ∙ rw (a, all_parts (digit_at l) 2 2 128, b, c))
 
   pub quick_call :
-      (a b : Byte) (first core : ℕ) (d : Bool) → a ≡ byte_of l 0 → a ≡ Is first → first ≡ 0x20 → b ≡ byte_of l 1 → b ≡ Is core → (d, ys) ≡ eight l 2 xs → d ≡ true →
+      (a b : Option ℕ) (first core : ℕ) (d : Bool) → a ≡ byte_of l 0 → a ≡ Some first → first ≡ 0x20 → b ≡ byte_of l 1 → b ≡ Some core → (d, ys) ≡ eight l 2 xs → d ≡ true →
       Looked l xs (Look.Call core) ys
   unfolding kind pick
   quick_call a b first core d p p' e q q' r t =

@@ -8,16 +8,15 @@ ghost use Rattle.lines.specs.Lines.{end_of, part, next_of};
 ghost use Rattle.lines.specs.Front.{fronted};
 ghost use Rattle.lines.specs.Close.{closing};
 
-use hex_digits::Byte;
 use parsing::{Frame, MOST, Status};
 
 const NEWLINE: u8 = 10;
 
-// The line at a place: its frame and where the next line starts, or that its newline is not there yet.
+// The line at a place: its frame, and where the next line starts. There is none where its newline is not there yet.
 #[derive(Clone, Copy)]
-pub enum Next {
-    Line { frame: Frame, after: usize },
-    Unfinished,
+pub struct Next {
+    pub frame: Frame,
+    pub after: usize,
 }
 
 // What 132 signs are before a newline, with no search for an earlier one: a call on a core; signs that are not all digits; or
@@ -34,13 +33,13 @@ fn quick(line: &[u8], xs: &mut [u64; 8]) -> Look
     requires { length line.now ≡ 132 }
     ensures { Looked line.now xs.old result xs.new }
 {
-    let Byte::Is(first) = hex_digits::byte_at(line, 0) else {
+    let Some(first) = hex_digits::byte_at(line, 0) else {
         return Look::Other;
     };
     if first != 0x20 {
         return Look::Other;
     }
-    let Byte::Is(core) = hex_digits::byte_at(line, 1) else {
+    let Some(core) = hex_digits::byte_at(line, 1) else {
         return Look::Other;
     };
     if hex_read::numbers(line, 2, xs) {
@@ -53,33 +52,31 @@ fn quick(line: &[u8], xs: &mut [u64; 8]) -> Look
 pub fn line_end(s: &[u8], at: usize) -> usize
     ensures { result ≡ end_of s.now at }
 {
-    let mut i = at;
-    while i < s.len() {
+    for i in at..s.len() {
         if s[i] == NEWLINE {
             return i;
         }
-        i += 1;
     }
-    i
+    at.max(s.len())
 }
 
 // The line at a place, once it is known where it ends.
-fn read_to(s: &[u8], at: usize, e: usize, xs: &mut [u64; 8]) -> Next
+fn read_to(s: &[u8], at: usize, e: usize, xs: &mut [u64; 8]) -> Option<Next>
     requires { e ≡ end_of s.now at }
     ensures { (result, xs.new) ≡ next_of s.now at xs.old }
 {
     if e < s.len() {
         let frame = parsing::parse(&s[at..e], xs);
-        return Next::Line {
+        return Some(Next {
             frame,
             after: e + 1,
-        };
+        });
     }
-    Next::Unfinished
+    None
 }
 
 // The line at a place, by way of its newline.
-fn scan(s: &[u8], at: usize, xs: &mut [u64; 8]) -> Next
+fn scan(s: &[u8], at: usize, xs: &mut [u64; 8]) -> Option<Next>
     ensures { (result, xs.new) ≡ next_of s.now at xs.old }
 {
     let e = line_end(s, at);
@@ -87,27 +84,27 @@ fn scan(s: &[u8], at: usize, xs: &mut [u64; 8]) -> Next
 }
 
 // The line at a place, where the signs up to a newline are not all digits: they are it, or they have another newline among them.
-fn spoilt(s: &[u8], at: usize, e: usize, xs: &mut [u64; 8]) -> Next
+fn spoilt(s: &[u8], at: usize, e: usize, xs: &mut [u64; 8]) -> Option<Next>
     requires e_value { all_digits (part s.now at e) ≡ false }
     requires e_in_bounds { e < length s.now }
     ensures { (result, xs.new) ≡ next_of s.now at xs.old }
 {
     let end = line_end(s, at);
     if end == e {
-        return Next::Line {
+        return Some(Next {
             frame: Frame::Refused(Status::NoHex),
             after: e + 1,
-        };
+        });
     }
     read_to(s, at, end, xs)
 }
 
 // The line at a place. A call is known without looking for its newline: there is none among 132 digits.
-pub fn next_line(s: &[u8], at: usize, xs: &mut [u64; 8]) -> Next
+pub fn next_line(s: &[u8], at: usize, xs: &mut [u64; 8]) -> Option<Next>
     ensures { (result, xs.new) ≡ next_of s.now at xs.old }
 {
     if s.len() < at {
-        return Next::Unfinished;
+        return None;
     }
     if s.len() - at <= MOST {
         return scan(s, at, xs);
@@ -116,10 +113,10 @@ pub fn next_line(s: &[u8], at: usize, xs: &mut [u64; 8]) -> Next
     if s[e] == NEWLINE {
         match quick(&s[at..e], xs) {
             Look::Call(core) => {
-                return Next::Line {
+                return Some(Next {
                     frame: Frame::Call { core },
                     after: e + 1,
-                };
+                });
             }
             Look::NoHex => {
                 return spoilt(s, at, e, xs);
@@ -132,32 +129,17 @@ pub fn next_line(s: &[u8], at: usize, xs: &mut [u64; 8]) -> Next
     scan(s, at, xs)
 }
 
-// As much of a line as its frame can depend on: one sign more than a frame may have.
-fn enough(n: usize) -> usize
-    ensures { result ≡ min n 133 }
-{
-    if n <= MOST {
-        return n;
-    }
-    MOST + 1
-}
-
 // Moves a line that lacks its newline, the bytes from one place up to another, to the front, and says how many bytes of it
-// are kept. Where these are no places of the bytes, nothing moves.
+// are kept: as many as its frame can depend on, one sign more than a frame may have. Where these are no places of the bytes, nothing moves.
 pub fn to_front(s: &mut [u8], from: usize, to: usize) -> usize
     ensures { (result, s.new) ≡ fronted s.old from to }
 {
-    if to < from {
+    if to < from || s.len() < to {
         return 0;
     }
-    if s.len() < to {
-        return 0;
-    }
-    let n = enough(to - from);
-    let mut i: usize = 0;
-    while i < n {
+    let n = (to - from).min(MOST + 1);
+    for i in 0..n {
         s[i] = s[from + i];
-        i += 1;
     }
     n
 }

@@ -1,8 +1,9 @@
 -- Which new mappings are granted, in plain numbers: exactly those that may be made.
-use Rattle.std.specs.Prelude.{◌≡◌, ℕ, ◌+◌, ◌/◌, ◌<◌, ◌≤◌, true, false, List, length, nat_eq, refl}
+use Rattle.std.specs.Prelude.{◌≡◌, ℕ, ◌+◌, ◌/◌, ◌<◌, ◌≤◌, true, false, List, length, nat_eq, refl, Err, Ok, Some}
 use Rattle.std.proofs.Math.Path.{sym}
 use Rattle.std.proofs.Common.{arith}
 use borrow.Author.Tests.{eq-eqb, ne_eqb, le-ltb, lt-leb}
+use Rattle.mapping.specs.declared.Grant.TheVariants.{Hold}
 use Rattle.rules.specs.Choice.{either, neither, not_false, passed}
 use Rattle.rules.specs.Tests.{stops, goes, ends}
 use Rattle.rules.specs.Sizes.{page_size, most_mappings, last_world, last_attributes}
@@ -10,7 +11,6 @@ use Rattle.rules.specs.declared.Reason.TheVariants.{Overlap}
 use Rattle.pages.specs.Window.{acceptable, accepted, pages_to, run_yes}
 use Rattle.pages.specs.Owners.{owned, Packed, owned_if}
 use Rattle.pages.specs.declared.Window.{Window}
-use Rattle.pages.specs.declared.Place.TheVariants.{Page}
 use Rattle.ranges.specs.Ranges.{meet_if}
 use Rattle.ranges.specs.Mapping.{pages_of, is_outside}
 use Rattle.ranges.specs.Nested.{beside_is, beside_clear}
@@ -19,12 +19,11 @@ use Rattle.mapping.specs.Entries.{Every, Among, Beside, apart_one, any_none, any
 use Rattle.mapping.specs.Sound.{page_start, Formed}
 use Rattle.mapping.proofs.Sound.{granted_formed, granted_room, granted_apart, granted_owned}
 use Rattle.ranges.specs.declared.Mapping.{Mapping}
-use Rattle.mapping.specs.declared.Verdict.TheVariants.{Granted, No}
 use Rattle.mapping.specs.Granted.{Mappable}
 
 module _ (w : Window) (ok : acceptable w ≡ true) (o : List ℕ) (world : ℕ) (l : List Mapping) (m : Mapping) where
   -- A granted mapping may be made,
-  pub granted_mappable : map_verdict l o w world m ≡ Granted → Mappable w o world l m
+  pub granted_mappable : map_verdict l o w world m ≡ (Ok Hold) → Mappable w o world l m
   unfolding on_pages
   granted_mappable g = record {
     formed = granted_formed w ok l o world m g;
@@ -35,7 +34,7 @@ module _ (w : Window) (ok : acceptable w ≡ true) (o : List ℕ) (world : ℕ) 
 
   -- ---- the tests that a well-formed mapping passes
   module _ (f : Formed w m) where
-    runs : pages_of w m ≡ Page (pages_to w m.phys)
+    runs : pages_of w m ≡ Some (pages_to w m.phys)
     runs =
         let a = accepted w ok in
         run_yes w m.phys (m.size / page_size) (record { aligned = f.phys_aligned; low = f.low; inside = omega (arith, f.phys_aligned, f.size_aligned, f.low, f.high, a.aligned) })
@@ -59,7 +58,7 @@ module _ (w : Window) (ok : acceptable w ≡ true) (o : List ℕ) (world : ℕ) 
       has_room = lt-leb most_mappings (length l) r
 
       -- where it may not stand beside one of the list, it is refused for that,
-      pub overlap_refused : (n : Mapping) → Among n l → (Beside m n → ⊥) → map_verdict l o w world m ≡ No Overlap
+      pub overlap_refused : (n : Mapping) → Among n l → (Beside m n → ⊥) → map_verdict l o w world m ≡ Err Overlap
       unfolding map_verdict clash
       overlap_refused n a d =
           let c : clashes m n ≡ true = either (clashes m n) (λ y. y) (λ k. absurd (d (beside_is m n k))) in
@@ -67,7 +66,7 @@ module _ (w : Window) (ok : acceptable w ≡ true) (o : List ℕ) (world : ℕ) 
           (goes _ _ _ _ _ _ is_formed (goes _ _ _ _ _ _ is_inside (goes _ _ _ _ _ _ has_room (stops _ _ _ _ _ _ (any_among (clashes m) l n a c) refl)))))
 
   -- and one that may be made is granted.
-  pub mappable_granted : Packed o w.pages → world ≤ last_world → Every (λ (n : Mapping). 0 < n.size) l → Mappable w o world l m → map_verdict l o w world m ≡ Granted
+  pub mappable_granted : Packed o w.pages → world ≤ last_world → Every (λ (n : Mapping). 0 < n.size) l → Mappable w o world l m → map_verdict l o w world m ≡ (Ok Hold)
   unfolding map_verdict clash owns_pages owns_run
   mappable_granted p few some q =
       let f = q.formed in

@@ -1,9 +1,9 @@
 -- What a sound list means for its addresses and pages: where an address leads is exact, a page has at most one virtual address,
-use Rattle.std.specs.Prelude.{◌≡◌, ℕ, ◌+◌, ◌-◌, ◌%◌, ◌^◌, true, List}
+use Rattle.std.specs.Prelude.{◌≡◌, ℕ, ◌+◌, ◌-◌, ◌%◌, ◌^◌, true, List, None, Option, Some}
 use Rattle.std.proofs.Math.Path.{refl, sym, ap}
 use Rattle.std.proofs.Common.{◌∙◌}
-use Rattle.std.proofs.Math.Option.{Option, none, some}
 use native.Mathlib.Omega.{arith}
+use Rattle.mapping.specs.Leads.{To, to_phys, to_attr}
 use Rattle.rules.specs.Choice.{yes_or_no}
 use Rattle.pages.specs.Window.{acceptable, accepted}
 use Rattle.pages.specs.declared.Window.{Window}
@@ -13,12 +13,11 @@ use Rattle.mapping.specs.Entries.{every_among, any_among}
 use Rattle.mapping.proofs.Deciding.{deciding_is, deciding_holds, deciding_none}
 use Rattle.mapping.specs.Sound.{Formed, Sound}
 use Rattle.ranges.specs.declared.Mapping.{Mapping}
-use Rattle.mapping.specs.declared.Lead.TheVariants.{To, Nowhere}
 use Rattle.mapping.specs.Once.{LedBy, Reaches, one_place}
 
 module _ (w : Window) (ok : acceptable w ≡ true) (o : List ℕ) (world : ℕ) (l : List Mapping) (s : Sound w o world l) where
   -- the sum of the physical address does not wrap
-  pub lead_exact : (x : ℕ) (m : Mapping) → deciding l x ≡ some m → lead_of l x ≡ To (m.phys + (x - m.virt)) m.attr
+  pub lead_exact : (x : ℕ) (m : Mapping) → deciding l x ≡ Some m → lead_of l x ≡ To (m.phys + (x - m.virt)) m.attr
   unfolding lead_of leading deciding
   lead_exact x m e =
       let a = accepted w ok in
@@ -35,12 +34,12 @@ module _ (w : Window) (ok : acceptable w ≡ true) (o : List ℕ) (world : ℕ) 
   led x phys attr e = of (deciding l x) refl
     where
       of : (d : Option Mapping) → deciding l x ≡ d → LedBy l x phys attr
-      of none g = let z : Nowhere ≡ To phys attr = (rw g at e) in let y : ◌≡◌ {A = ℕ} 0 1 = cc in absurd (omega arith)
-      of (some m) g =
+      of None g = let z : None ≡ To phys attr = (rw g at e) in let y : ◌≡◌ {A = ℕ} 0 1 = cc in absurd (omega arith)
+      of (Some m) g =
           let d = deciding_is l x m g in
           let z : To (m.phys + (x - m.virt)) m.attr ≡ To phys attr = sym (lead_exact x m g) ∙ e in
-          let p : phys ≡ m.phys + (x - m.virt) = cc in
-          let a : attr ≡ m.attr = cc in
+          let p : phys ≡ m.phys + (x - m.virt) = sym (to_phys z) in
+          let a : attr ≡ m.attr = sym (to_attr z) in
           record {
             decider = m;
             among = d.among;
@@ -57,9 +56,9 @@ module _ (w : Window) (ok : acceptable w ≡ true) (o : List ℕ) (world : ℕ) 
   leads x p r = of (deciding l x) refl
     where
       of : (d : Option Mapping) → deciding l x ≡ d → (attr : ℕ) × (lead_of l x ≡ To p attr)
-      of none g =
+      of None g =
           absurd (yes_or_no _ (any_among (holds x) l r.through r.among (within_if x r.through.virt r.through.size r.low r.high)) (deciding_none l x g))
-      of (some m) g =
+      of (Some m) g =
           let d = deciding_is l x m g in
           let q : Reaches l x (m.phys + (x - m.virt)) = record {
             through = m;

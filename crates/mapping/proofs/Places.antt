@@ -1,7 +1,6 @@
 -- Places read as a list: the mappings of the held ones, in the order of their places. What a list of mappings says is found at a place,
-use Rattle.std.specs.Prelude.{◌≡◌, ℕ, zero, suc, Bool, true, false, List, nat_le}
+use Rattle.std.specs.Prelude.{◌≡◌, ℕ, zero, suc, Bool, true, false, List, nat_le, Some}
 use Rattle.std.proofs.Math.Path.{refl, sym}
-use Rattle.std.proofs.Math.Option.{some}
 use Rattle.rules.specs.Choice.{pick, pick_yes, pick_no, by, either}
 use Rattle.ranges.specs.Mapping.{preferred}
 use Rattle.places.specs.Decider.{smallest_from, free_holds}
@@ -14,13 +13,13 @@ module _ (x : ℕ) (m b : Mapping) where
   abbrev smaller : Mapping
   smaller = pick (is_free b) m (pick (nat_le m.size b.size) m b)
 
-  smaller_held : is_free m ≡ false → some (lesser m (held_at b)) ≡ held_at smaller
+  smaller_held : is_free m ≡ false → Some (lesser m (held_at b)) ≡ held_at smaller
   unfolding lesser
   smaller_held h =
-      by (λ (f : Bool). is_free b ≡ f → some (lesser m (held_at b)) ≡ held_at (pick f m (pick (nat_le m.size b.size) m b))) (is_free b)
+      by (λ (f : Bool). is_free b ≡ f → Some (lesser m (held_at b)) ≡ held_at (pick f m (pick (nat_le m.size b.size) m b))) (is_free b)
       (λ _ e. rw (here_none b e, pick_yes true m (pick (nat_le m.size b.size) m b)) (sym (here_some m h)))
       (λ _ e. rw (here_some b e, pick_no false m (pick (nat_le m.size b.size) m b))
-      (by (λ (f : Bool). some (pick f m b) ≡ held_at (pick f m b)) (nat_le m.size b.size)
+      (by (λ (f : Bool). Some (pick f m b) ≡ held_at (pick f m b)) (nat_le m.size b.size)
       (λ _. rw (pick_yes true m b) (sym (here_some m h))) (λ _. rw (pick_no false m b) (sym (here_some b e)))))
       refl
 
@@ -30,9 +29,9 @@ module _ (x : ℕ) (m b : Mapping) where
   preferred_entry l e =
       either (is_free m) (λ y. rw (entry_free m l y, pick_no (holds x m) smaller b (free_holds x m y)) e)
       (λ n. rw (entry_held m l n, ← e)
-      (by (λ (h : Bool). held_at (pick h smaller b) ≡ pick h (some (lesser m (held_at b))) (held_at b)) (holds x m)
-      (λ _. rw (pick_yes true smaller b, pick_yes true (some (lesser m (held_at b))) (held_at b)) (sym (smaller_held n)))
-      (λ _. rw (pick_no false smaller b, pick_no false (some (lesser m (held_at b))) (held_at b)))))
+      (by (λ (h : Bool). held_at (pick h smaller b) ≡ pick h (Some (lesser m (held_at b))) (held_at b)) (holds x m)
+      (λ _. rw (pick_yes true smaller b, pick_yes true (Some (lesser m (held_at b))) (held_at b)) (sym (smaller_held n)))
+      (λ _. rw (pick_no false smaller b, pick_no false (Some (lesser m (held_at b))) (held_at b)))))
 
 pub smallest_gathered : (f : ℕ → Mapping) (x a n : ℕ) → held_at (smallest_from f x a n) ≡ smallest_of (holds x) (gathered f a n)
 unfolding smallest_from gathered smallest_of

@@ -1,41 +1,40 @@
 -- What every step keeps of a world's mappings: each is well formed and inside the window, no two clash,
-use Rattle.std.specs.Prelude.{◌≡◌, ℕ, ◌+◌, ◌-◌, ◌*◌, ◌/◌, ◌%◌, ◌<◌, ◌≤◌, Bool, true, false, not, ◌||◌, List, length, ◌==◌, ◌≢◌}
+use Rattle.std.specs.Prelude.{◌≡◌, ℕ, ◌+◌, ◌-◌, ◌*◌, ◌/◌, ◌%◌, ◌<◌, ◌≤◌, Bool, true, false, not, ◌||◌, List, length, ◌==◌, ◌≢◌, Err, None, Ok, Option, Result, Some}
 use Rattle.std.proofs.Math.Path.{refl, sym}
 use Rattle.std.proofs.Common.{◌∙◌}
 use native.Mathlib.Omega.{arith}
 use borrow.Author.Tests.{ltb-false, leb-false, eqb-false, not-false}
+use Rattle.mapping.specs.declared.Grant.TheVariants.{Hold, Nothing}
+use Rattle.rules.specs.declared.Reason.{Reason}
+use Rattle.mapping.specs.declared.Grant.{Grant}
 use Rattle.rules.specs.Choice.{pick, pick_yes, pick_no, by, either, first_or, second_or, not_first, not_second, yes_or_no}
 use Rattle.rules.specs.Tests.{Clear, sieve, sieved}
 use Rattle.rules.specs.Sizes.{page_size, most_mappings}
 use Rattle.pages.specs.Window.{acceptable, accepted, run_of, run_is}
 use Rattle.pages.specs.Owners.{owner, owned, owned_at, given, given_outside}
 use Rattle.pages.specs.declared.Window.{Window}
-use Rattle.pages.specs.declared.Place.{Place}
-use Rattle.pages.specs.declared.Place.TheVariants.{Page, Outside}
 use Rattle.ranges.specs.Ranges.{within, meet, within_low, within_high, within_if, meet_inside}
 use Rattle.mapping.specs.Mapping.{on_pages, any_of, clash, meets_run, without, has_exactly, malformed, beyond, is_full, owns_run, owns_pages, map_tests, map_verdict}
 use Rattle.mapping.specs.Entries.{Inserted, Among, any_among, any_none, insert_any, any_less, insert_every, remove_every, insert_apart, remove_apart, insert_length, without_missing, without_removes}
 use Rattle.ranges.specs.Mapping.{pages_of, is_outside}
 use Rattle.ranges.specs.declared.Mapping.{Mapping}
-use Rattle.mapping.specs.declared.Verdict.{Verdict}
-use Rattle.mapping.specs.declared.Verdict.TheVariants.{Granted, Nothing, No}
 use Rattle.mapping.specs.Sound.{Formed, Sound, aligned, covered_whole, covers, on_page, page_start}
 
 -- no test held
 granted_clear :
     (l : List Mapping) (o : List ℕ) (w : Window) (world : ℕ) (m : Mapping) →
-    map_verdict l o w world m ≡ Granted → ((m.size == 0) ≡ false) × Clear (map_tests l o w world m)
+    map_verdict l o w world m ≡ (Ok Hold) → ((m.size == 0) ≡ false) × Clear (map_tests l o w world m)
 unfolding map_verdict
 granted_clear l o w world m =
-    by (λ (b : Bool). pick b Nothing (sieve No (map_tests l o w world m) Granted) ≡ Granted → (b ≡ false) × Clear (map_tests l o w world m)) (m.size == 0)
-    (λ e g. let z : Nothing ≡ Granted = sym (pick_yes true Nothing _ refl) ∙ g in let y : ◌≡◌ {A = ℕ} 0 1 = cc in absurd (omega arith))
-    (λ e g. (refl, clear (sym (pick_no false Nothing _ refl) ∙ g)))
+    by (λ (b : Bool). pick b (Ok Nothing) (sieve Err (map_tests l o w world m) (Ok Hold)) ≡ (Ok Hold) → (b ≡ false) × Clear (map_tests l o w world m)) (m.size == 0)
+    (λ e g. let z : (Ok Nothing) ≡ (Ok Hold) = sym (pick_yes true (Ok Nothing) _ refl) ∙ g in let y : ◌≡◌ {A = ℕ} 0 1 = cc in absurd (omega arith))
+    (λ e g. (refl, clear (sym (pick_no false (Ok Nothing) _ refl) ∙ g)))
   where
-    clear : sieve No (map_tests l o w world m) Granted ≡ Granted → Clear (map_tests l o w world m)
-    clear = sieved (λ (v : Verdict). v ≡ Granted → Clear (map_tests l o w world m)) No (map_tests l o w world m) Granted
+    clear : sieve Err (map_tests l o w world m) (Ok Hold) ≡ (Ok Hold) → Clear (map_tests l o w world m)
+    clear = sieved (λ (v : Result Grant Reason). v ≡ (Ok Hold) → Clear (map_tests l o w world m)) Err (map_tests l o w world m) (Ok Hold)
         (λ r z. let y : ◌≡◌ {A = ℕ} 0 1 = cc in absurd (omega arith)) (λ c z. c)
 
-module _ (w : Window) (ok : acceptable w ≡ true) (l : List Mapping) (o : List ℕ) (world : ℕ) (m : Mapping) (g : map_verdict l o w world m ≡ Granted) where
+module _ (w : Window) (ok : acceptable w ≡ true) (l : List Mapping) (o : List ℕ) (world : ℕ) (m : Mapping) (g : map_verdict l o w world m ≡ (Ok Hold)) where
   clear : ((m.size == 0) ≡ false) × Clear (map_tests l o w world m)
   clear = granted_clear l o w world m g
 
@@ -59,12 +58,12 @@ module _ (w : Window) (ok : acceptable w ≡ true) (l : List Mapping) (o : List 
   unfolding Clear
   mine = not-false _ clear.1.1.1.1.1.0
 
-  first_page : (k : Place) → is_outside k ≡ false → (first : ℕ) × (k ≡ Page first)
+  first_page : (k : Option ℕ) → is_outside k ≡ false → (first : ℕ) × (k ≡ Some first)
   unfolding is_outside
-  first_page (Page first) e = (first, refl)
-  first_page Outside e = let z : true ≡ false = e in absurd (yes_or_no true refl z)
+  first_page (Some first) e = (first, refl)
+  first_page None e = let z : true ≡ false = e in absurd (yes_or_no true refl z)
 
-  starts : (first : ℕ) × (pages_of w m ≡ Page first)
+  starts : (first : ℕ) × (pages_of w m ≡ Some first)
   unfolding beyond
   starts = first_page (pages_of w m) (not_first (is_outside (pages_of w m)) _ inside)
 
@@ -101,7 +100,7 @@ module _ (w : Window) (o : List ℕ) (world : ℕ) where
   -- a granted mapping is put in
   pub granted_keeps :
       (l l' : List Mapping) (m : Mapping) →
-      acceptable w ≡ true → map_verdict l o w world m ≡ Granted → Inserted m l l' → Sound w o world l → Sound w o world l'
+      acceptable w ≡ true → map_verdict l o w world m ≡ (Ok Hold) → Inserted m l l' → Sound w o world l → Sound w o world l'
   unfolding covers meets_run
   granted_keeps l l' m ok g i s = record {
     formed = insert_every (Formed w) i (granted_formed w ok l o world m g) s.formed;
@@ -160,7 +159,7 @@ module _ (w : Window) (l : List Mapping) (start count first : ℕ) where
       h
 
   pub unmet_run :
-      acceptable w ≡ true → run_of w start count ≡ Page first → meets_run l start count ≡ false →
+      acceptable w ≡ true → run_of w start count ≡ Some first → meets_run l start count ≡ false →
       (page : ℕ) → first ≤ page → page < first + count → covers w l page ≡ false
   unmet_run ok e = unmet_at (run_is w ok start count first e).starts
 

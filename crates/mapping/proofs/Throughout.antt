@@ -1,6 +1,5 @@
 -- When one mapping decides throughout a range of virtual addresses.
-use Rattle.std.specs.Prelude.{◌≡◌, ℕ, ◌+◌, ◌<◌, ◌≤◌, true, false, List, ◌≢◌, nat_le, nat_lt}
-use Rattle.std.proofs.Math.Option.{some}
+use Rattle.std.specs.Prelude.{◌≡◌, ℕ, ◌+◌, ◌<◌, ◌≤◌, true, false, List, ◌≢◌, nat_le, nat_lt, Some}
 use native.Mathlib.Omega.{arith}
 use borrow.Author.Tests.{ltb-true, ltb-false, leb-true, leb-false}
 use Rattle.rules.specs.Choice.{either, both_true, left_true, right_true, yes_or_no}
@@ -14,7 +13,7 @@ use Rattle.mapping.specs.Throughout.{splits}
 -- an entry that has the whole range
 module _ (l : List Mapping) (p : Apart l) (a s : ℕ) (m : Mapping) (e : Among m l) (f : m.virt ≤ a) (g : a + s ≤ m.virt + m.size) where
   -- where no smaller one meets the range, it decides throughout
-  pub decides_throughout : any_of (splits a s m) l ≡ false → (x : ℕ) → a ≤ x → x < a + s → deciding l x ≡ some m
+  pub decides_throughout : any_of (splits a s m) l ≡ false → (x : ℕ) → a ≤ x → x < a + s → deciding l x ≡ Some m
   unfolding splits holds
   decides_throughout h x low high =
       smallest_decides l x p m (record {
@@ -30,7 +29,7 @@ module _ (l : List Mapping) (p : Apart l) (a s : ℕ) (m : Mapping) (e : Among m
 
   -- where a smaller one does, some address of the range is not decided by it
   pub split_somewhere : 0 < s → Every (λ (n : Mapping). 0 < n.size) l → any_of (splits a s m) l ≡ true
-      → (x : ℕ) × ((a ≤ x) × ((x < a + s) × (deciding l x ≢ some m)))
+      → (x : ℕ) × ((a ≤ x) × ((x < a + s) × (deciding l x ≢ Some m)))
   unfolding splits holds
   split_somewhere h k y =
       let r = among_any (splits a s m) l y in
@@ -43,5 +42,5 @@ module _ (l : List Mapping) (p : Apart l) (a s : ℕ) (m : Mapping) (e : Among m
       (λ z. let j = leb-false a n.virt z in
       (a, (omega arith, (omega arith, λ d. smaller n a r.1.0 b d (within_if a n.virt n.size (omega arith) c.0)))))
     where
-      smaller : (n : Mapping) (x : ℕ) → Among n l → n.size < m.size → deciding l x ≡ some m → within x n.virt n.size ≢ true
+      smaller : (n : Mapping) (x : ℕ) → Among n l → n.size < m.size → deciding l x ≡ Some m → within x n.virt n.size ≢ true
       smaller n x z b d y = let q = every_among _ l n (deciding_is l x m d).least z y in omega arith

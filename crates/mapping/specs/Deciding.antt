@@ -1,7 +1,6 @@
 -- Which mapping of a list decides an address: one of the list that holds it, and no larger than any other that does.
-use Rattle.std.specs.Prelude.{◌≡◌, ◌≤◌, Bool, true, false, List, [], ◌∷◌, ◌++◌}
+use Rattle.std.specs.Prelude.{◌≡◌, ◌≤◌, Bool, true, false, List, [], ◌∷◌, ◌++◌, None, Option, Some}
 use Rattle.std.proofs.Math.Path.{refl}
-use Rattle.std.proofs.Math.Option.{Option, none, some}
 use Rattle.rules.specs.Choice.{pick_no, yes_or_no, not_first, not_second}
 use Rattle.mapping.specs.Mapping.{any_of, smallest_of}
 use Rattle.mapping.specs.Entries.{Every, Among}
@@ -15,8 +14,8 @@ pub record Smallest (p : Mapping → Bool) (l : List Mapping) (m : Mapping) : Ty
 
 -- what a search for the smallest gives
 pub data Sought (p : Mapping → Bool) (l : List Mapping) : Option Mapping → Type 0 where
-  missing : any_of p l ≡ false → Sought p l none
-  smallest : (m : Mapping) → Smallest p l m → Sought p l (some m)
+  missing : any_of p l ≡ false → Sought p l None
+  smallest : (m : Mapping) → Smallest p l m → Sought p l (Some m)
 
 pub every_wider : (P Q : Mapping → Type 0) (l : List Mapping) → ((m : Mapping) → P m → Q m) → Every P l → Every Q l
 unfolding Every

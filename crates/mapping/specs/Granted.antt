@@ -1,7 +1,7 @@
 -- Which new mappings are granted, in plain numbers: exactly those that may be made.
 use Rattle.std.specs.Prelude.{◌≡◌, ℕ, ◌+◌, ◌<◌, ◌≤◌, List, length}
 use Rattle.rules.specs.Sizes.{most_mappings}
-use Rattle.pages.specs.Owners.{owner, owned}
+use Rattle.pages.specs.Owners.{owner}
 use Rattle.pages.specs.declared.Window.{Window}
 use Rattle.mapping.specs.Entries.{Among, Beside}
 use Rattle.mapping.specs.Sound.{page_start, Formed}

@@ -1,8 +1,7 @@
 -- The mappings that each world holds, how one is put among them and how one is taken out. Shut: the laws say the rest.
-use Rattle.std.specs.Prelude.{◌≡◌, ℕ, ◌-◌, ◌*◌, ◌<◌, ◌≤◌, Bool, true, false, ltb, List, [], length, ◌==◌, ◌≢◌, nat_lt}
+use Rattle.std.specs.Prelude.{◌≡◌, ℕ, ◌-◌, ◌*◌, ◌<◌, ◌≤◌, Bool, true, false, ltb, List, [], length, ◌==◌, ◌≢◌, nat_lt, None, Some, Option}
 use Rattle.std.proofs.Math.Path.{refl, sym}
 use Rattle.std.proofs.Common.{ap, ◌∙◌, arith}
-use Rattle.std.proofs.Math.Option.{Option, none, some}
 use borrow.Author.Tests.{lt-ltb, le-ltb, le-leb, lt-leb, ne_eqb, eqb-true, eqb-false, ltb-true, ltb-false}
 use Rattle.rules.specs.Choice.{pick, picked, passed, either, chosen, chosen_two, yes_or_no}
 use Rattle.rules.specs.Sizes.{worlds, page_size, most_mappings}
@@ -15,7 +14,6 @@ pub use Rattle.places.specs.Table.{unmapped, WholeLists, unmapped_whole, place}
 use Rattle.places.specs.Found.{found, latest, latest_most, latest_answers, latest_fails, latest_same, spot, spot_reach, spot_free, spot_full, spot_same, clashed}
 use Rattle.places.specs.Table.{blank, reach, reach_no_world, place_out, stored, stored_whole, stored_at, stored_same, stored_within, stored_elsewhere, stored_no_world, stored_no_place, freed, freed_whole, freed_same, freed_within, freed_elsewhere, unmapped_blank}
 use Rattle.ranges.specs.declared.Mapping.{Mapping}
-use Rattle.mapping.specs.declared.Decider.TheVariants.{By, Nobody}
 use Rattle.ranges.specs.declared.Question.{Question}
 use Rattle.ranges.specs.declared.Question.TheVariants.{Exact, OnPages, OnRange, Touches}
 
@@ -103,15 +101,15 @@ module _ (t : List ℕ) (w : ℕ) (m : Mapping) (r : Bool) (e : r ≡ clashed t 
   clash_no h = sym clash_is ∙ h
 
 -- ---- where an address leads, by who decides it
-pub decided_some : (o : Option Mapping) (m : Mapping) → By m ≡ decided_by o → o ≡ some m
+pub decided_some : (o : Option Mapping) (m : Mapping) → Some m ≡ decided_by o → o ≡ Some m
 unfolding decided_by
-decided_some none m e = let y : ◌≡◌ {A = ℕ} 0 1 = cc in absurd (omega arith)
-decided_some (some n) m e = let z : m ≡ n = cc in ap some (sym z)
+decided_some None m e = let y : ◌≡◌ {A = ℕ} 0 1 = cc in absurd (omega arith)
+decided_some (Some n) m e = let z : m ≡ n = cc in ap Some (sym z)
 
-pub decided_none : (o : Option Mapping) → Nobody ≡ decided_by o → o ≡ none
+pub decided_none : (o : Option Mapping) → None ≡ decided_by o → o ≡ None
 unfolding decided_by
-decided_none none e = refl
-decided_none (some n) e = let y : ◌≡◌ {A = ℕ} 0 1 = cc in absurd (omega arith)
+decided_none None e = refl
+decided_none (Some n) e = let y : ◌≡◌ {A = ℕ} 0 1 = cc in absurd (omega arith)
 
 pub ruleset verdict_laws = (clash_yes, clash_no, full_yes, full_no)
 

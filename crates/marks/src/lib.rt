@@ -20,6 +20,7 @@ const REALMS: u64 = 0xB;
 pub const NOBODYS: u64 = 0;
 
 // What a mark at the place of a page counts.
+#[tactic(auto, using(crate::specs::Digits::unit_is))]
 fn unit_of(page: u64) -> u64
     ensures { result ≡ 2 ^ (4 * (page % 16)) }
 {
@@ -27,6 +28,7 @@ fn unit_of(page: u64) -> u64
 }
 
 // The mark of a page in its number.
+#[tactic(auto, using(crate::specs::Digits::digit_is))]
 pub fn read(number: u64, page: u64) -> u64
     ensures { result ≡ digit number (page % 16) }
 {
@@ -43,39 +45,29 @@ pub fn write(number: u64, page: u64, mark: u64) -> u64
 }
 
 // The mark of an owner: 0, which is nobody's, where there is no such owner.
+#[tactic(auto, using(rules::specs::Tests::choices), unfolding(crate::specs::Owners::mark_of))]
 pub fn mark_of(owner: u64) -> u64
     ensures { result ≡ mark_of owner }
 {
-    if owner == SECURE {
-        return SECURES;
+    match owner {
+        SECURE => SECURES,
+        NORMAL => NORMALS,
+        ROOT => ROOTS,
+        REALM => REALMS,
+        _ => NOBODYS,
     }
-    if owner == NORMAL {
-        return NORMALS;
-    }
-    if owner == ROOT {
-        return ROOTS;
-    }
-    if owner == REALM {
-        return REALMS;
-    }
-    NOBODYS
 }
 
 // The owner with the mark: one past the last world where the mark is nobody's.
+#[tactic(auto, using(rules::specs::Tests::choices), unfolding(crate::specs::Owners::owner_of))]
 pub fn owner_of(mark: u64) -> u64
     ensures { result ≡ owner_of mark }
 {
-    if mark == SECURES {
-        return SECURE;
+    match mark {
+        SECURES => SECURE,
+        NORMALS => NORMAL,
+        ROOTS => ROOT,
+        REALMS => REALM,
+        _ => WORLDS,
     }
-    if mark == NORMALS {
-        return NORMAL;
-    }
-    if mark == ROOTS {
-        return ROOT;
-    }
-    if mark == REALMS {
-        return REALM;
-    }
-    WORLDS
 }

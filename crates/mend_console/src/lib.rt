@@ -2,16 +2,10 @@
 #![tactic(auto)]
 
 ghost use Rattle.std.specs.Prelude.{◌≡◌, true};
-ghost use Rattle.frames.specs.Frames.{Machine, on_machine};
 ghost use Rattle.sheets.specs.Sheet.{Sheet, on_sheet, finished};
 ghost use Rattle.mend_reads.specs.Reading.{Ran, Mends};
 
-use cores::{Powers, Turns};
-use ledger::Ledger;
-use mapping::Lists;
-use pages::{Named, Owners};
-use registers::Saved;
-use setup::Setup;
+use frames::Machine;
 use sheets::{Dropped, Ends, Kept};
 
 // Reads until the input ends: whether it did. The count only has the loop end: no input needs so many reads.
@@ -21,30 +15,18 @@ fn serve(
     kept: &mut Kept,
     dropped: &mut Dropped,
     ends: &mut Ends,
-    setup: &mut Setup,
-    named: &mut Named,
-    book: &mut Ledger,
-    owners: &mut Owners,
-    saved: &mut Saved,
-    powers: &mut Powers,
-    turns: &mut Turns,
-    lists: &mut Lists,
+    machine: &mut Machine,
 ) -> bool
-    ensures { result ≡ true → on_machine setup named book owners saved powers turns lists (λ (m m' : Machine). on_sheet kept dropped ends (λ (s s' : Sheet). Ran (m, s) (m', s'))) }
+    ensures { result ≡ true → on_sheet kept dropped ends (λ (s s' : Sheet). Ran (machine.old, s) (machine.new, s')) }
 {
     let mut waits: usize = 0;
-    let mut left = u64::MAX;
-    while left > 0 {
+    for _ in 0..u64::MAX {
         let n = channels::fill(rt, buf, waits);
-        let more = mend_reads::take_read(
-            buf, waits, n, kept, dropped, ends, setup, named, book, owners, saved, powers, turns,
-            lists,
-        );
+        let more = mend_reads::take_read(buf, waits, n, kept, dropped, ends, machine);
         if n == waits {
             return true;
         }
         waits = more;
-        left -= 1;
     }
     false
 }
@@ -54,29 +36,8 @@ pub fn mend(rt: &impl Input, kept: &mut Kept, dropped: &mut Dropped, ends: &mut 
     ensures { result ≡ true → on_sheet kept dropped ends (λ (s s' : Sheet). Mends s s') }
 {
     let mut buf = io::large_buffer();
-    let mut setup = setup::fresh();
-    let mut named = pages::fresh_named();
-    let mut book = ledger::fresh();
-    let mut owners = pages::fresh_owners();
-    let mut saved = registers::fresh();
-    let mut powers = cores::fresh_powers();
-    let mut turns = cores::fresh_turns();
-    let mut lists = mapping::fresh();
-    serve(
-        rt,
-        &mut buf,
-        kept,
-        dropped,
-        ends,
-        &mut setup,
-        &mut named,
-        &mut book,
-        &mut owners,
-        &mut saved,
-        &mut powers,
-        &mut turns,
-        &mut lists,
-    )
+    let mut machine = Machine::fresh();
+    serve(rt, &mut buf, kept, dropped, ends, &mut machine)
 }
 
 // Finishes the text of a sheet, and writes it: whether it could be written.

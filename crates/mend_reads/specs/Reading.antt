@@ -1,22 +1,15 @@
 -- The loop of mending: the machine of the kept lines and the sheet are what is kept, and a line means its frame and its bytes.
-use Rattle.std.specs.Prelude.{◌≡◌, Bool, true, List, ℕ, ◌-◌, ◌≤◌, length}
+use Rattle.std.specs.Prelude.{◌≡◌, Bool, true, List, ℕ, ◌-◌, ◌≤◌, length, None, Option}
 use Rattle.std.proofs.Math.Path.{sym}
 use Rattle.std.proofs.Common.{ap, ◌∙◌, arith}
+use Rattle.lines.specs.Next.{Line}
+use Rattle.lines.specs.declared.Next.{Next}
 use Rattle.lines.specs.Lines.{line_at, part, next_of, end_of}
 use Rattle.lines.specs.Input.{reading, reading_of, next_found}
 use Rattle.lines.specs.Front.{fronted}
 use Rattle.lines.specs.Close.{closing}
 use Rattle.parsing.specs.declared.Frame.{Frame}
-use Rattle.lines.specs.declared.Next.{Next}
-use Rattle.lines.specs.declared.Next.TheVariants.{Line, Unfinished}
-use Rattle.ledger.specs.Ledger.{empty}
-use Rattle.registers.specs.Registers.{zeros}
-use Rattle.cores.specs.Cores.{first_powers, first_turns}
-use Rattle.pages.specs.Owners.{unowned}
-use Rattle.pages.specs.Named.{unnamed}
-use Rattle.mapping.specs.Lists.{unmapped}
-use Rattle.setup.specs.Table.{unset}
-use Rattle.frames.specs.Frames.{Machine, machine, first}
+use Rattle.frames.specs.Frames.{Machine, first}
 use Rattle.inputs.specs.Folds.{left}
 use Rattle.inputs.specs.Feeding.{feeding}
 use Rattle.inputs.proofs.Feeding.{feeding_end, feeding_stop, feeding_line, feeds}
@@ -31,8 +24,8 @@ module _ (s : List ℕ) (k : Kept) (at : ℕ) (o : ℕ × Kept) (inv : feeding a
   pub stops_end : length s ≤ at → (at, k) ≡ o
   stops_end h = feeding_end after_line meaning k at s h ∙ inv
 
-  module _ (next : Next) (xs ys : List ℕ) (e : (next, ys) ≡ next_of s at xs) where
-    pub stops_unfinished : next ≡ Unfinished → (at, k) ≡ o
+  module _ (next : Option Next) (xs ys : List ℕ) (e : (next, ys) ≡ next_of s at xs) where
+    pub stops_unfinished : next ≡ None → (at, k) ≡ o
     stops_unfinished is = feeding_stop after_line meaning k at s next xs ys e is ∙ inv
 
     pub goes_on : (f : Frame) (after : ℕ) → next ≡ Line f after → (k' : Kept) → k' ≡ after_line k ((f, ys), part s at (after - 1)) → feeding after_line meaning k' after s ≡ o
@@ -61,14 +54,13 @@ Serving k₀ k s kept = Loop.Serving after_line meaning k₀ k s kept
 abbrev pub Ran : Kept → Kept → Type 0
 Ran k k' = Loop.Ran after_line meaning k k'
 
--- ---- from tables as they are before the first frame
+-- ---- from a machine as it is before the first frame
 -- a sheet with what an input comes to
 pub record Mends (s s' : Sheet) : Type 0 where
   pub input : List ℕ
   pub is : s' ≡ (left after_line meaning (first, s) input).1
 
-pub ran_mends : (s n l o r p t k : List ℕ) (h : Sheet) (whole : Bool) (m' : Machine) (h' : Sheet) → (whole ≡ true → Ran (machine s n l o r p t k, h) (m', h')) → whole ≡ true
-    → s ≡ unset → n ≡ unnamed → l ≡ empty → o ≡ unowned → r ≡ zeros → p ≡ first_powers → t ≡ first_turns → k ≡ unmapped → Mends h h'
-ran_mends s n l o r p t k h whole m' h' ran y a b c d e f g i =
-    let q : Ran (first, h) (m', h') = rw (a, b, c, d, e, f, g, i) at (ran y) in
+pub ran_mends : (m m' : Machine) (h h' : Sheet) (whole : Bool) → (whole ≡ true → Ran (m, h) (m', h')) → whole ≡ true → m ≡ first → Mends h h'
+ran_mends m m' h h' whole ran y e =
+    let q : Ran (first, h) (m', h') = rw e at (ran y) in
     record { input = q.input; is = ap (λ (u : Kept). u.1) q.is }

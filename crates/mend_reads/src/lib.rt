@@ -2,19 +2,13 @@
 #![tactic(auto)]
 
 ghost use Rattle.std.specs.Prelude.{◌≡◌};
-ghost use Rattle.frames.specs.Frames.{Machine, on_machine};
 ghost use Rattle.inputs.specs.Feeding.{feeding};
 ghost use Rattle.inputs.specs.Waiting.{front, heard, taken};
 ghost use Rattle.sheets.specs.Sheet.{Sheet, on_sheet};
 ghost use Rattle.mending.specs.Judged.{meaning, after_line};
 
-use cores::{Powers, Turns};
-use ledger::Ledger;
+use frames::Machine;
 use lines::Next;
-use mapping::Lists;
-use pages::{Named, Owners};
-use registers::Saved;
-use setup::Setup;
 use sheets::{Dropped, Ends, Kept};
 
 // The bytes that wait, and behind them those of a read.
@@ -26,40 +20,15 @@ pub fn feed(
     kept: &mut Kept,
     dropped: &mut Dropped,
     ends: &mut Ends,
-    setup: &mut Setup,
-    named: &mut Named,
-    book: &mut Ledger,
-    owners: &mut Owners,
-    saved: &mut Saved,
-    powers: &mut Powers,
-    turns: &mut Turns,
-    lists: &mut Lists,
+    machine: &mut Machine,
 ) -> usize
-    ensures { on_machine setup named book owners saved powers turns lists (λ (m m' : Machine). on_sheet kept dropped ends (λ (s s' : Sheet). (result, (m', s')) ≡ feeding after_line meaning (m, s) 0 chunk.now)) }
+    ensures { on_sheet kept dropped ends (λ (s s' : Sheet). (result, (machine.new, s')) ≡ feeding after_line meaning (machine.old, s) 0 chunk.now) }
 {
     let mut x = [0u64; 8];
     let mut at: usize = 0;
-    while at < chunk.len() {
-        let Next::Line { frame, after } = lines::next_line(chunk, at, &mut x) else {
-            return at;
-        };
+    while let Some(Next { frame, after }) = lines::next_line(chunk, at, &mut x) {
         let end = after - 1;
-        mending::take_line(
-            frame,
-            &x,
-            &chunk[at..end],
-            kept,
-            dropped,
-            ends,
-            setup,
-            named,
-            book,
-            owners,
-            saved,
-            powers,
-            turns,
-            lists,
-        );
+        mending::take_line(frame, &x, &chunk[at..end], kept, dropped, ends, machine);
         at = after;
     }
     at
@@ -73,32 +42,12 @@ pub fn take_read(
     kept: &mut Kept,
     dropped: &mut Dropped,
     ends: &mut Ends,
-    setup: &mut Setup,
-    named: &mut Named,
-    book: &mut Ledger,
-    owners: &mut Owners,
-    saved: &mut Saved,
-    powers: &mut Powers,
-    turns: &mut Turns,
-    lists: &mut Lists,
+    machine: &mut Machine,
 ) -> usize
-    ensures { on_machine setup named book owners saved powers turns lists (λ (m m' : Machine). on_sheet kept dropped ends (λ (s s' : Sheet). ((m', s'), front result buf.new) ≡ taken after_line meaning (m, s) (heard buf.old waits n))) }
+    ensures { on_sheet kept dropped ends (λ (s s' : Sheet). ((machine.new, s'), front result buf.new) ≡ taken after_line meaning (machine.old, s) (heard buf.old waits n)) }
 {
     let end = lines::close(buf, waits, n);
     let bytes: &[u8] = buf;
-    let used = feed(
-        &bytes[0..end],
-        kept,
-        dropped,
-        ends,
-        setup,
-        named,
-        book,
-        owners,
-        saved,
-        powers,
-        turns,
-        lists,
-    );
+    let used = feed(&bytes[0..end], kept, dropped, ends, machine);
     lines::to_front(buf, used, end)
 }

@@ -2,17 +2,11 @@
 #![tactic(auto)]
 
 ghost use Rattle.std.specs.Prelude.{◌≡◌};
-ghost use Rattle.frames.specs.Frames.{Machine, on_machine};
 ghost use Rattle.sheets.specs.Sheet.{Sheet, on_sheet};
 ghost use Rattle.mending.specs.Judged.{later, status_of, judged, after_line};
 
-use cores::{Powers, Turns};
-use ledger::Ledger;
-use mapping::Lists;
-use pages::{Named, Owners};
+use frames::Machine;
 use parsing::Frame;
-use registers::Saved;
-use setup::Setup;
 use sheets::{Dropped, Ends, Kept};
 use showing::Reply;
 
@@ -48,31 +42,18 @@ fn status_of(reply: Reply) -> u64
 {
     match reply {
         Reply::Told(why) => parsing::byte_of(why),
-        Reply::Called { core, world, shown } => 0,
+        Reply::Called { .. } => 0,
     }
 }
 
 // The verdict on a frame, by the frame step itself; a call or an arrival does nothing.
-fn judge(
-    frame: Frame,
-    x: &[u64; 8],
-    setup: &mut Setup,
-    named: &mut Named,
-    book: &mut Ledger,
-    owners: &mut Owners,
-    saved: &mut Saved,
-    powers: &mut Powers,
-    turns: &mut Turns,
-    lists: &mut Lists,
-) -> u64
-    ensures { on_machine setup named book owners saved powers turns lists (λ (m m' : Machine). (m', result) ≡ judged m frame x.now) }
+fn judge(frame: Frame, x: &[u64; 8], machine: &mut Machine) -> u64
+    ensures { (machine.new, result) ≡ judged machine.old frame x.now }
 {
     if is_later(frame) {
         return MISPLACED;
     }
-    let reply = frames::step(
-        frame, x, setup, named, book, owners, saved, powers, turns, lists,
-    );
+    let reply = machine.step(frame, x);
     status_of(reply)
 }
 
@@ -84,22 +65,13 @@ pub fn take_line(
     kept: &mut Kept,
     dropped: &mut Dropped,
     ends: &mut Ends,
-    setup: &mut Setup,
-    named: &mut Named,
-    book: &mut Ledger,
-    owners: &mut Owners,
-    saved: &mut Saved,
-    powers: &mut Powers,
-    turns: &mut Turns,
-    lists: &mut Lists,
+    machine: &mut Machine,
 )
-    ensures { on_machine setup named book owners saved powers turns lists (λ (m m' : Machine). on_sheet kept dropped ends (λ (s s' : Sheet). (m', s') ≡ after_line (m, s) ((frame, x.now), line.now))) }
+    ensures { on_sheet kept dropped ends (λ (s s' : Sheet). (machine.new, s') ≡ after_line (machine.old, s) ((frame, x.now), line.now)) }
 {
     let counts = sheets::count_line(ends);
     if counts {
-        let status = judge(
-            frame, x, setup, named, book, owners, saved, powers, turns, lists,
-        );
+        let status = judge(frame, x, machine);
         sheets::note(status, line, kept, dropped, ends);
     }
 }

@@ -1,20 +1,20 @@
 -- One line: it is noted for a page exactly where it names the page's owner, as a granted transfer or as an accepted set-up line.
-use Rattle.std.specs.Prelude.{◌≡◌, true, List, ℕ, ◌+◌, ◌≤◌, ◌<◌, eqb}
+use Rattle.std.specs.Prelude.{◌≡◌, true, List, ℕ, ◌+◌, ◌≤◌, ◌<◌, eqb, None, Option, Some}
 use Rattle.std.proofs.Math.Path.{refl, ap}
 use Rattle.std.proofs.Common.{sym, ◌∙◌, arith, eqb-true}
+use Rattle.spans.specs.Named.{Pages}
+use Rattle.spans.specs.declared.Span.{Span}
+use Rattle.judgements.specs.declared.Transfer.{Transfer}
 use Rattle.rules.specs.Choice.{pick, chosen}
 use Rattle.rules.specs.Sizes.{most_pages}
 use Rattle.pages.specs.Window.{run_of, run_is}
 use Rattle.pages.specs.Naming.{naming_granted}
 use Rattle.pages.specs.declared.Window.{Window}
-use Rattle.pages.specs.declared.Place.TheVariants.{Page}
 use Rattle.judgements.specs.Judge.{called_by, args_of}
 use Rattle.judgements.specs.Asked.{key, Asks, by_row_lem}
 use Rattle.judgements.proofs.Asked.{called_for}
 use Rattle.judgements.specs.declared.Args.{Args}
 use Rattle.judgements.specs.declared.Caller.{Caller}
-use Rattle.judgements.specs.declared.Row.{Row}
-use Rattle.judgements.specs.declared.Row.TheVariants.{Is, NoTransfer}
 use Rattle.judgements.specs.declared.Answer.{Answer}
 use Rattle.judgements.specs.declared.Answer.TheVariants as Answer
 use Rattle.judgements.specs.declared.Deed.TheVariants.{Move}
@@ -37,8 +37,6 @@ use Rattle.outcomes.specs.declared.Came.{Came}
 use Rattle.outcomes.specs.declared.Came.TheVariants.{Told, Called}
 use Rattle.origins.specs.Origins.{WholeOrigins, origin, marked_inside, marked_outside}
 use Rattle.spans.specs.Spans.{any_row, span_by, asked_by, is_done, named_in, named}
-use Rattle.spans.specs.declared.Span.{Span}
-use Rattle.spans.specs.declared.Span.TheVariants.{Pages, NoPages}
 use Rattle.tracing.specs.Traced.{noted}
 use Rattle.guarantees.specs.Runs.{Event, byte, reply, Taken}
 use Rattle.guarantees.specs.Fit.{Fit}
@@ -70,7 +68,7 @@ done_is Answer.Silent e = cc
 done_is (Answer.No r) e = cc
 
 -- the run that a call asks for
-asks_span : {v : Caller} {a : Args} {h k start count to : ℕ} → Asks v a h k start count to → (w : Window) (lowest : ℕ) → run_of w start count ≡ Page lowest
+asks_span : {v : Caller} {a : Args} {h k start count to : ℕ} → Asks v a h k start count to → (w : Window) (lowest : ℕ) → run_of w start count ≡ Some lowest
     → span_by w a (any_row a k) ≡ Pages lowest count
 asks_span {a = a} {h = h} {k = k} (by_row_lem t e) w lowest l = rw (row_any a h k t e, l)
 
@@ -97,7 +95,7 @@ module _ (m : Machine) (fit : Fit m) (e : Event) (page : ℕ) (t : List ℕ) (wh
         e.0 refl refl
 
     -- it asks for the pages of its run
-    pub asks_pages : (start count to lowest : ℕ) → AsksTransfer m core e.1 start count to → run_of (window m.setup) start count ≡ Page lowest → asked_by (window m.setup) e.1 ≡ Pages lowest count
+    pub asks_pages : (start count to lowest : ℕ) → AsksTransfer m core e.1 start count to → run_of (window m.setup) start count ≡ Some lowest → asked_by (window m.setup) e.1 ≡ Pages lowest count
     unfolding asked_by
     asks_pages start count to lowest a l = asks_span a.so (window m.setup) lowest l
 
@@ -159,14 +157,14 @@ module _ (m : Machine) (fit : Fit m) (e : Event) (page : ℕ) (t : List ℕ) (wh
 
   -- ---- no other line is
   module _ (none : (to : ℕ) → Gives m e page to → ⊥) where
-    abbrev Still : Span → Type 0
+    abbrev Still : Option Span → Type 0
     Still s = origin (noted t line s) page ≡ origin t page
 
     outside_still : (lowest count : ℕ) → (lowest ≤ page → page < lowest + count → ⊥) → Still (Pages lowest count)
     unfolding noted
     outside_still lowest count d = marked_outside t lowest count line page d
 
-    no_pages : Still NoPages
+    no_pages : Still None
     unfolding noted
     no_pages = refl
 
@@ -181,9 +179,9 @@ module _ (m : Machine) (fit : Fit m) (e : Event) (page : ℕ) (t : List ℕ) (wh
     frame_still (Frame.Refused why) is told = no_pages
 
     module _ (core : ℕ) (is : e.0 ≡ Frame.Call core) (ok : Taken (reply m e)) (d : answer_in (state_of m) core e.1 ≡ Answer.Done) where
-      row_still : (r : Row) → any_row (args_of (called_by e.1) e.1) (key e.1) ≡ r → Still (span_by (window m.setup) (args_of (called_by e.1) e.1) r)
-      row_still NoTransfer k = no_pages
-      row_still (Is q) k =
+      row_still : (r : Option Transfer) → any_row (args_of (called_by e.1) e.1) (key e.1) ≡ r → Still (span_by (window m.setup) (args_of (called_by e.1) e.1) r)
+      row_still None k = no_pages
+      row_still (Some q) k =
           let v = done_moves (sight (state_of m) core) e.1 q k d in
           let g = moves_granted m fit e core is ok v.run.first q.count v.to v.run.moves in
           rw v.run.lies

@@ -1,11 +1,13 @@
 -- The theorems: after any lines, whatever their bytes, the owner and the line that stand for each page are those of demand 3.
-use Rattle.std.specs.Prelude.{◌≡◌, ℕ, ◌+◌, ◌≤◌, ◌<◌}
+use Rattle.std.specs.Prelude.{◌≡◌, ℕ, ◌+◌, ◌≤◌, ◌<◌, None, Option, Some}
 use Rattle.std.proofs.Math.Path.{refl, sym, ap, subst}
 use Rattle.std.proofs.Common.{◌∙◌, length-append}
 use mathlib.Core.List.{List, [], ◌∷◌, ◌++◌}
 use native.Mathlib.Omega.{arith}
 use Rattle.std.proofs.Math.ListN.{length}
 use Rattle.std.proofs.lemmas.List.{length-map}
+use Rattle.spans.specs.Named.{Pages}
+use Rattle.spans.specs.declared.Span.{Span}
 use Rattle.rules.specs.Choice.{yes_or_no}
 use Rattle.pages.specs.Owners.{owner}
 use Rattle.lines.specs.Lines.{lines_of}
@@ -15,8 +17,6 @@ use Rattle.frames.specs.Frames.{Machine, first}
 use Rattle.inputs.specs.Folds.{folded, left, folded_two}
 use Rattle.origins.specs.Origins.{WholeOrigins, none, origin, none_whole, none_origin, marked_whole}
 use Rattle.origins.specs.Lines.{most, WholeLines, no_line, lines_in, one_more, first_lines, first_whole, more_whole, more_lines}
-use Rattle.spans.specs.declared.Span.{Span}
-use Rattle.spans.specs.declared.Span.TheVariants.{Pages, NoPages}
 use Rattle.tracing.specs.Traced.{Kept, start, noted, after_line}
 use Rattle.guarantees.specs.Runs.{Event, Events, byte, next, ran, always}
 use Rattle.guarantees.specs.Fit.{Fit, first_fit, fit_next}
@@ -32,10 +32,10 @@ record Good (k : Kept) : Type 0 where
   origins : WholeOrigins k.1.0
   lines : WholeLines k.1.1
 
-noted_whole : (t : List ℕ) (line : ℕ) (s : Span) → WholeOrigins t → WholeOrigins (noted t line s)
+noted_whole : (t : List ℕ) (line : ℕ) (s : Option Span) → WholeOrigins t → WholeOrigins (noted t line s)
 unfolding noted
-noted_whole t line (Pages lowest count) w = marked_whole t lowest count line w
-noted_whole t line NoPages w = w
+noted_whole t line (Some s) w = marked_whole t s.first s.count line w
+noted_whole t line None w = w
 
 good_next : (k : Kept) (e : Event) → Good k → Good (after_line k e)
 unfolding after_line

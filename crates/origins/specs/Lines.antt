@@ -1,10 +1,10 @@
 -- How many lines came.
-use Rattle.std.specs.Prelude.{◌≡◌, List, ℕ, ◌+◌, ◌≤◌, ◌<◌, ltb, length, get_or, set, replicate}
+use Rattle.std.specs.Prelude.{◌≡◌, List, ℕ, ◌+◌, ◌≤◌, ◌<◌, ltb, length, get_or, set, replicate, min}
 use Rattle.std.proofs.Math.Path.{refl}
-use Rattle.std.proofs.Common.{ap, ◌∙◌, arith, length-set, get_or-set_same, lt-ltb, le-ltb}
+use Rattle.std.proofs.Common.{ap, ◌∙◌, arith, length-set, get_or-set_same, lt-ltb, ltb-true, ltb-false}
 use mathlib.Core.Bool.{true, false}
-use Rattle.std.proofs.lemmas.List.{length-replicate}
-use Rattle.rules.specs.Choice.{pick, picked, passed, pick_yes}
+use Rattle.std.proofs.lemmas.List.{length-replicate, set-get_or}
+use Rattle.rules.specs.Choice.{pick, picked, passed, pick_yes, either}
 
 -- the highest number that there is room for
 abbrev pub most : ℕ
@@ -37,15 +37,13 @@ module _ (t : List ℕ) where
   unfolding lines_in
   lines_are = refl
 
-  pub one_counted : get_or t 0 0 < most → set t 0 (get_or t 0 0 + 1) ≡ one_more t
+  -- the number grows up to the highest that there is room for
+  pub counts : (n : ℕ) → get_or t 0 0 ≤ most → n ≡ min (get_or t 0 0 + 1) most → set t 0 n ≡ one_more t
   unfolding one_more
-  one_counted h = picked _ _ _ _ (lt-ltb (get_or t 0 0) most h) refl
-
-  pub none_counted : most ≤ get_or t 0 0 → t ≡ one_more t
-  unfolding one_more
-  none_counted h = passed _ _ _ _ (le-ltb (get_or t 0 0) most h) refl
-
-pub ruleset counts = (one_counted, none_counted)
+  counts n fits e =
+      either (ltb (get_or t 0 0) most)
+      (λ y. picked _ _ _ _ y (let z : n ≡ get_or t 0 0 + 1 = omega (arith, ltb-true _ _ y) in rw z))
+      (λ k. passed _ _ _ _ k (let z : n ≡ get_or t 0 0 = omega (arith, ltb-false _ _ k) in rw z (set-get_or t 0 0)))
 
 -- ---- the number of the last line
 pub first_lines : lines_in no_line ≡ 0

@@ -1,10 +1,14 @@
 -- For each page of the window the number of the line that named its owner. The layout of the table is known here alone: the laws say the rest.
-use Rattle.std.specs.Prelude.{◌≡◌, refl, List, ℕ, ◌+◌, ◌≤◌, ◌<◌, ltb, get_or, replicate}
+use Rattle.std.specs.Prelude.{◌≡◌, refl, List, ℕ, zero, suc, ◌+◌, ◌-◌, ◌≤◌, ◌<◌, ltb, length, get_or, set, replicate}
 use Rattle.rules.specs.Choice.{either}
 use Rattle.rules.specs.Sizes.{most_pages}
-use Rattle.tools.specs.Store.{read, Whole, read_in, read_out, blank_whole, blank_read, past_read}
+use Rattle.tools.specs.Store.{read, Whole, read_in, read_out, blank_whole, blank_read, write_in, past_read}
 use Rattle.pages.specs.Run.{written, filled, fill_none, fill_starts, filled_whole, filled_same, filled_other}
-use Rattle.std.proofs.Common.{ltb-true, ltb-false}
+use Rattle.std.proofs.Common.{append_assoc, arith, ltb-true, ltb-false}
+use Rattle.std.proofs.Math.Seq.{sets}
+use Rattle.std.proofs.lemmas.List.{drop-drop, length-replicate}
+use Rattle.std.proofs.lemmas.List.Edits.{sets-eq}
+use borrow.Rule.Slice.PartMut.{put_mid}
 
 -- ---- shut: no other file opens these
 -- no page is named
@@ -39,14 +43,24 @@ module _ (t : List ℕ) (page : ℕ) where
 
 pub ruleset looks = (origin_in, origin_past)
 
+-- so many marks, one behind the other
+written_sets : (t : List ℕ) (page n mark : ℕ) → page + n ≤ most_pages → written t page n mark ≡ sets t page (replicate n mark)
+unfolding written
+written_sets t page zero mark h = refl
+written_sets t page (suc n) mark h = rw (← write_in most_pages t page mark (omega arith)) (written_sets (set t page mark) (suc page) n mark (omega arith))
+
 module _ (t : List ℕ) (first count line : ℕ) where
   pub mark_none : most_pages < first + count → t ≡ marked t first count line
   unfolding marked
   mark_none h = fill_none t first count line h
 
-  pub mark_starts : first + count ≤ most_pages → marked t first count line ≡ written t first count line
+  -- the run is filled at once
+  pub mark_filled : (part : List ℕ) → length t ≡ most_pages → first + count ≤ most_pages → part ≡ replicate count line → put_mid first (first + count - first) t part ≡ marked t first count line
   unfolding marked
-  mark_starts h = fill_starts t first count line h
+  mark_filled part whole h e =
+      let k : first + count - first ≡ count = omega arith in
+      let n : length (replicate count line) ≡ count = length-replicate count line in
+      rw (e, k, fill_starts t first count line h, written_sets t first count line h, sets-eq (replicate count line) t first (omega arith), n, drop-drop count first t, append_assoc)
 
 -- ---- no page is named at first
 pub none_whole : WholeOrigins none

@@ -34,19 +34,10 @@ pub fn line_of(t: &Origins, page: u64) -> u64
 pub fn mark_run(t: &mut Origins, first: u64, count: u64, line: u64)
     ensures { t.new ≡ marked t.old first count line }
 {
-    if MOST_PAGES < first {
+    if MOST_PAGES < first || MOST_PAGES - first < count {
         return;
     }
-    if MOST_PAGES - first < count {
-        return;
-    }
-    let mut page = first;
-    let mut unwritten = count;
-    while 0 < unwritten {
-        t[page as usize] = line;
-        page += 1;
-        unwritten -= 1;
-    }
+    t[first as usize..(first + count) as usize].fill(line);
 }
 
 // No line came.
@@ -67,8 +58,5 @@ pub fn lines_in(t: &Lines) -> u64
 pub fn count_line(t: &mut Lines)
     ensures { t.new ≡ one_more t.old }
 {
-    let n = t[0];
-    if n < u64::MAX {
-        t[0] = n + 1;
-    }
+    t[0] = t[0].saturating_add(1);
 }

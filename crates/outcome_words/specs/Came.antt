@@ -123,9 +123,6 @@ module _ (s t r : Sentence) (accepted range clash done : ℕ) (came : Came) (now
 pub ruleset outcomes = (came_told, came_called)
 
 -- ---- how the code's branches meet what was handed over
-pub refusal_speaks : (a : Answer) (r : Reason) → a ≡ Answer.No r → false ≡ is_silent a
-refusal_speaks a r e = rw e
-
 module _ (came : Came) (now : ℕ) where
   pub handed_told : (why : Status) → came ≡ Told why → false ≡ handed came now
   handed_told why e = rw e
@@ -142,3 +139,5 @@ module _ (came : Came) (now : ℕ) where
       handed_on b n h = rw e (passed _ _ _ _ (ne_eqb now normal m) (passed _ _ _ _ (ne_eqb now no_world n) h))
 
 pub ruleset handings = (handed_told, handed_back, handed_off, handed_on)
+
+pub ruleset laws = (answers, outcomes, handings)

@@ -1,8 +1,8 @@
 // What came of a frame, in words: a status, or an accepted call's answer; and whether the call was handed over.
-#![tactic(auto)]
+#![tactic(auto, using(crate::specs::Came::laws))]
 
 ghost use Rattle.std.specs.Prelude.{◌≡◌};
-ghost use Rattle.outcome_words.specs.Came.{reason_word, status_word, answered, came_said, is_silent, handed};
+ghost use Rattle.outcome_words.specs.Came.{reason_word, status_word, answered, came_said, handed};
 ghost use Rattle.judgements.specs.declared.Answer.TheVariants as Answer;
 
 use asking::Known;
@@ -42,17 +42,26 @@ fn reason_word(r: Reason) -> u64
     }
 }
 
-// The words of a status, where these three depend on the frame.
-fn status_word(why: Status, accepted: u64, range: u64, clash: u64) -> u64
-    ensures { result ≡ status_word why accepted range clash }
+// The words that a frame has of its own: for three statuses, and for what is granted.
+#[derive(Clone, Copy)]
+pub struct Words {
+    pub accepted: u64,
+    pub range: u64,
+    pub clash: u64,
+    pub done: u64,
+}
+
+// The words of a status.
+fn status_word(why: Status, words: Words) -> u64
+    ensures { result ≡ status_word why words.accepted words.range words.clash }
 {
     match why {
-        Status::Accepted => accepted,
+        Status::Accepted => words.accepted,
         Status::NoHex => w::REFUSED71,
         Status::Unknown => w::REFUSED72,
         Status::Misplaced => w::WRONG_TIME,
-        Status::OutOfRange => range,
-        Status::Clash => clash,
+        Status::OutOfRange => words.range,
+        Status::Clash => words.clash,
     }
 }
 
@@ -60,19 +69,21 @@ fn status_word(why: Status, accepted: u64, range: u64, clash: u64) -> u64
 fn refusal(s: Sentence, r: Reason) -> Sentence
     ensures { result ≡ answered s (Answer.No r) 0 0 }
 {
-    let t = s.with(Piece::Word(w::MINUS));
-    let u = t.with(Piece::Number(rules::minus_of(r)));
-    let v = u.with(Piece::Word(w::COMMA));
-    v.with(Piece::Word(reason_word(r)))
+    s.with(Piece::Word(w::MINUS))
+        .with(Piece::Number(rules::minus_of(r)))
+        .with(Piece::Word(w::COMMA))
+        .with(Piece::Word(reason_word(r)))
 }
 
 // Where an address leads.
 fn lead(s: Sentence, phys: u64, attr: u64) -> Sentence
     ensures { result ≡ answered s (Answer.Leads phys attr) 0 0 }
 {
-    let t = s.with(Piece::Word(w::LEADS));
-    let u = t.with(Piece::Hex(phys));
-    asking::name(u.with(Piece::Word(w::COMMA)), Known::Attributes, attr)
+    let t = s
+        .with(Piece::Word(w::LEADS))
+        .with(Piece::Hex(phys))
+        .with(Piece::Word(w::COMMA));
+    asking::name(t, Known::Attributes, attr)
 }
 
 // A number that was answered.
@@ -86,10 +97,7 @@ fn number(s: Sentence, n: u64) -> Sentence
 fn ownership(s: Sentence, owns: bool) -> Sentence
     ensures { result ≡ answered s (Answer.Owns owns) 0 0 }
 {
-    if owns {
-        return s.with(Piece::Word(w::OWNED));
-    }
-    s.with(Piece::Word(w::UNOWNED))
+    s.with(Piece::Word(if owns { w::OWNED } else { w::UNOWNED }))
 }
 
 // Which world runs then.
@@ -97,9 +105,10 @@ fn turn(s: Sentence, world: u64) -> Sentence
     ensures { result ≡ answered s Answer.Silent 0 world }
 {
     if world == NO_WORLD {
-        return s.with(Piece::Word(w::OFF));
+        s.with(Piece::Word(w::OFF))
+    } else {
+        asking::name(s, Known::World, world).with(Piece::Word(w::RUNS))
     }
-    asking::name(s, Known::World, world).with(Piece::Word(w::RUNS))
 }
 
 // What a call was answered, where this is the word for what is granted, and this world runs on its core then.
@@ -121,44 +130,14 @@ fn answer(s: Sentence, a: Answer, done: u64, now: u64) -> Sentence
     }
 }
 
-// What came of a frame. Three statuses have words by the frame.
-pub fn outcome(
-    s: Sentence,
-    accepted: u64,
-    range: u64,
-    clash: u64,
-    done: u64,
-    came: Came,
-    now: u64,
-) -> Sentence
-    ensures { result ≡ came_said s accepted range clash done came now }
+// What came of a frame, in its words.
+pub fn outcome(s: Sentence, words: Words, came: Came, now: u64) -> Sentence
+    ensures { result ≡ came_said s words.accepted words.range words.clash words.done came now }
 {
     let t = s.with(Piece::Column(CAME));
     match came {
-        Came::Told(why) => { t.with(Piece::Word(status_word(why, accepted, range, clash))) }
-        Came::Called(made) => {
-            let a = made.answer;
-            answer(t, a, done, now)
-        }
-    }
-}
-
-// Whether nothing was answered.
-fn is_silent(a: Answer) -> bool
-    ensures { result ≡ is_silent a }
-{
-    match a {
-        Answer::Version => false,
-        Answer::PowerVersion => false,
-        Answer::Done => false,
-        Answer::On => false,
-        Answer::Off => false,
-        Answer::Pending => false,
-        Answer::Owns(b) => false,
-        Answer::Leads { phys, attr } => false,
-        Answer::Count(n) => false,
-        Answer::Silent => true,
-        Answer::No(r) => false,
+        Came::Told(why) => t.with(Piece::Word(status_word(why, words))),
+        Came::Called(made) => answer(t, made.answer, words.done, now),
     }
 }
 
@@ -169,12 +148,5 @@ pub fn is_handed(came: Came, now: u64) -> bool
     let Came::Called(made) = came else {
         return false;
     };
-    if now == rules::NORMAL {
-        return false;
-    }
-    if now == NO_WORLD {
-        return false;
-    }
-    let a = made.answer;
-    is_silent(a)
+    now != rules::NORMAL && now != NO_WORLD && matches!(made.answer, Answer::Silent)
 }

@@ -1,5 +1,5 @@
 -- How the code's branches meet the definition, and what came of a frame beside the monitor's answer to it.
-use Rattle.std.specs.Prelude.{◌≡◌, true, List}
+use Rattle.std.specs.Prelude.{◌≡◌, true, List, Err, Ok, Result}
 use Rattle.std.proofs.Math.Path.{refl}
 use Prim.Native.Nat.{ℕ, ◌<◌}
 use Rattle.std.proofs.Common.{leb-false}
@@ -16,8 +16,6 @@ use Rattle.setup.specs.Table.{ready, cores}
 use Rattle.setup.specs.Statuses.{ruled_by}
 use Rattle.setup.specs.Frames.{sited, entering, naming_in}
 use Rattle.calling.specs.Calling.{site_of, trying, replied, performed, calling}
-use Rattle.calling.specs.declared.Tried.{Tried}
-use Rattle.calling.specs.declared.Tried.TheVariants as Tried
 use Rattle.showing.specs.declared.Reply.{Reply}
 use Rattle.showing.specs.declared.Reply.TheVariants as Reply
 use Rattle.arriving.specs.Arriving.{arriving}
@@ -27,43 +25,43 @@ use Rattle.outcomes.specs.declared.Came.{Came}
 use Rattle.outcomes.specs.declared.Came.TheVariants.{Told, Called}
 
 -- ---- the code's branches
-module _ (t : Tried) where
-  pub tries_refused : (why : Status) → t ≡ Tried.Refused why → Told why ≡ tried t
+module _ (t : Result Made Status) where
+  pub tries_refused : (why : Status) → t ≡ Err why → Told why ≡ tried t
   tries_refused why e = rw e
 
-  pub tries_called : (made : Made) → t ≡ Tried.Called made → Called made ≡ tried t
+  pub tries_called : (made : Made) → t ≡ Ok made → Called made ≡ tried t
   tries_called made e = rw e
 
 pub ruleset tries = (tries_refused, tries_called)
 
-module _ (s n l o v p t k : List ℕ) (f : Frame) (xs : List ℕ) where
-  pub takes_site : (base pages count : ℕ) (s' o' : List ℕ) (r : Status) → f ≡ Frame.Site base pages count → ((s', o'), r) ≡ sited s o base pages count
-      → (machine s' n l o' v p t k, Told r) ≡ taken (machine s n l o v p t k) f xs
+module _ (m : Machine) (f : Frame) (xs : List ℕ) where
+  pub takes_site : (base pages count : ℕ) (s' o' : List ℕ) (r : Status) → f ≡ Frame.Site base pages count → ((s', o'), r) ≡ sited m.setup m.owners base pages count
+      → (machine s' m.named m.ledger o' m.saved m.powers m.turns m.lists, Told r) ≡ taken m f xs
   unfolding framed came
   takes_site base pages count s' o' r e h = rw (e, ← h)
 
-  pub takes_entry : (first last kind number : ℕ) (l' : List ℕ) (r : Status) → f ≡ Frame.Entry first last kind number → (l', r) ≡ entering s l first last kind number
-      → (machine s n l' o v p t k, Told r) ≡ taken (machine s n l o v p t k) f xs
+  pub takes_entry : (first last kind number : ℕ) (l' : List ℕ) (r : Status) → f ≡ Frame.Entry first last kind number → (l', r) ≡ entering m.setup m.ledger first last kind number
+      → (machine m.setup m.named l' m.owners m.saved m.powers m.turns m.lists, Told r) ≡ taken m f xs
   unfolding framed came
   takes_entry first last kind number l' r e h = rw (e, ← h)
 
-  pub takes_name : (first count to : ℕ) (o' n' : List ℕ) (r : Status) → f ≡ Frame.Name first count to → ((o', n'), r) ≡ naming_in s o n first count to
-      → (machine s n' l o' v p t k, Told r) ≡ taken (machine s n l o v p t k) f xs
+  pub takes_name : (first count to : ℕ) (o' n' : List ℕ) (r : Status) → f ≡ Frame.Name first count to → ((o', n'), r) ≡ naming_in m.setup m.owners m.named first count to
+      → (machine m.setup n' m.ledger o' m.saved m.powers m.turns m.lists, Told r) ≡ taken m f xs
   unfolding framed came
   takes_name first count to o' n' r e h = rw (e, ← h)
 
-  pub takes_call : (core : ℕ) (s' : List ℕ) (w : Site) (l' o' v' p' t' k' : List ℕ) (r : Tried) (c : Came) → f ≡ Frame.Call core
-      → ((s', state w l' o' v' p' t' k'), r) ≡ trying s (state (site_of s) l o v p t k) core xs → c ≡ tried r
-      → (machine s' n l' o' v' p' t' k', c) ≡ taken (machine s n l o v p t k) f xs
+  pub takes_call : (core : ℕ) (s' : List ℕ) (w : Site) (l' o' v' p' t' k' : List ℕ) (r : Result Made Status) (c : Came) → f ≡ Frame.Call core
+      → ((s', state w l' o' v' p' t' k'), r) ≡ trying m.setup (state (site_of m.setup) m.ledger m.owners m.saved m.powers m.turns m.lists) core xs → c ≡ tried r
+      → (machine s' m.named l' o' v' p' t' k', c) ≡ taken m f xs
   unfolding framed came calling
   takes_call core s' w l' o' v' p' t' k' r c e h g = rw (e, ← h, g)
 
-  pub takes_arrival : (core : ℕ) (v' p' t' : List ℕ) (r : Status) → f ≡ Frame.Arrival core → (core_tables v' p' t', r) ≡ arriving s (core_tables v p t) core
-      → (machine s n l o v' p' t' k, Told r) ≡ taken (machine s n l o v p t k) f xs
+  pub takes_arrival : (core : ℕ) (v' p' t' : List ℕ) (r : Status) → f ≡ Frame.Arrival core → (core_tables v' p' t', r) ≡ arriving m.setup (core_tables m.saved m.powers m.turns) core
+      → (machine m.setup m.named m.ledger m.owners v' p' t' m.lists, Told r) ≡ taken m f xs
   unfolding framed came
   takes_arrival core v' p' t' r e h = rw (e, ← h)
 
-  pub takes_refused : (why : Status) → f ≡ Frame.Refused why → (machine s n l o v p t k, Told why) ≡ taken (machine s n l o v p t k) f xs
+  pub takes_refused : (why : Status) → f ≡ Frame.Refused why → (m, Told why) ≡ taken m f xs
   unfolding framed came
   takes_refused why e = rw e
 
@@ -80,7 +78,7 @@ module _ (m : Machine) (xs : List ℕ) (P : Frame → Machine × Reply → Came 
   came_by (Frame.Entry first last kind number) = told _ _ _ refl
   came_by (Frame.Name first count to) = told _ _ _ refl
   came_by (Frame.Call core) =
-      ruled_by (λ (o : (List ℕ × State) × Tried). framed m (Frame.Call core) xs ≡ with_state m (o.0, replied core o.0.1 o.1) → P (Frame.Call core) (with_state m (o.0, replied core o.0.1 o.1)) (tried o.1)) _ _ _ _ _
+      ruled_by (λ (o : (List ℕ × State) × Result Made Status). framed m (Frame.Call core) xs ≡ with_state m (o.0, replied core o.0.1 o.1) → P (Frame.Call core) (with_state m (o.0, replied core o.0.1 o.1)) (tried o.1)) _ _ _ _ _
       (λ why d e. told _ _ why e) (λ a b c e. call core (not-false _ a) (leb-false _ _ b) (not-false _ c)) refl
   came_by (Frame.Arrival core) = told _ _ _ refl
   came_by (Frame.Refused why) = told _ _ why refl

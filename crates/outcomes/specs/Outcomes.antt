@@ -1,20 +1,20 @@
 -- What comes of a frame, as values: a status, or who called and what was answered. The machine after it is the monitor's.
-use Rattle.std.specs.Prelude.{List, ℕ}
+use Rattle.std.specs.Prelude.{List, ℕ, Err, Ok, Result}
+use Rattle.parsing.specs.declared.Status.{Status}
+use Rattle.calls.specs.declared.Made.{Made}
 use Rattle.parsing.specs.declared.Frame.{Frame}
 use Rattle.parsing.specs.declared.Frame.TheVariants as Frame
 use Rattle.setup.specs.Frames.{sited, entering, naming_in}
 use Rattle.calling.specs.Calling.{trying}
-use Rattle.calling.specs.declared.Tried.{Tried}
-use Rattle.calling.specs.declared.Tried.TheVariants as Tried
 use Rattle.arriving.specs.Arriving.{arriving}
 use Rattle.frames.specs.Frames.{Machine, state_of, core_tables_of, framed}
 use Rattle.outcomes.specs.declared.Came.{Came}
 use Rattle.outcomes.specs.declared.Came.TheVariants.{Told, Called}
 
 -- of a call that was tried
-abbrev pub tried : Tried → Came
-tried (Tried.Refused why) = Told why
-tried (Tried.Called made) = Called made
+abbrev pub tried : Result Made Status → Came
+tried (Err why) = Told why
+tried (Ok made) = Called made
 
 -- of any frame
 unfoldable pub came : Machine → Frame → List ℕ → Came

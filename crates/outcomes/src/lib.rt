@@ -2,18 +2,11 @@
 #![tactic(auto)]
 
 ghost use Rattle.std.specs.Prelude.{◌≡◌};
-ghost use Rattle.frames.specs.Frames.{Machine, on_machine};
 ghost use Rattle.outcomes.specs.Outcomes.{tried, taken};
 
-use calling::Tried;
 use calls::Made;
-use cores::{Powers, Turns};
-use ledger::Ledger;
-use mapping::Lists;
-use pages::{Named, Owners};
+use frames::Machine;
 use parsing::{Frame, Status};
-use registers::Saved;
-use setup::Setup;
 
 // What comes of a frame.
 #[derive(Clone, Copy)]
@@ -25,30 +18,29 @@ pub enum Came {
 }
 
 // What comes of a call that was tried.
-fn of_call(t: Tried) -> Came
+fn of_call(t: Result<Made, Status>) -> Came
     ensures { result ≡ tried t }
 {
     match t {
-        Tried::Refused(why) => Came::Told(why),
-        Tried::Called(made) => Came::Called(made),
+        Err(why) => Came::Told(why),
+        Ok(made) => Came::Called(made),
     }
 }
 
 // One frame, with the eight numbers that stand beside it.
-pub fn take_frame(
-    frame: Frame,
-    x: &[u64; 8],
-    setup: &mut Setup,
-    named: &mut Named,
-    book: &mut Ledger,
-    owners: &mut Owners,
-    saved: &mut Saved,
-    powers: &mut Powers,
-    turns: &mut Turns,
-    lists: &mut Lists,
-) -> Came
-    ensures { on_machine setup named book owners saved powers turns lists (λ (m m' : Machine). (m', result) ≡ taken m frame x.now) }
+pub fn take_frame(frame: Frame, x: &[u64; 8], machine: &mut Machine) -> Came
+    ensures { (machine.new, result) ≡ taken machine.old frame x.now }
 {
+    let Machine {
+        setup,
+        named,
+        ledger,
+        owners,
+        saved,
+        powers,
+        turns,
+        lists,
+    } = machine;
     match frame {
         Frame::Site { base, pages, cores } => {
             Came::Told(setup::fix_site(setup, owners, base, pages, cores))
@@ -58,14 +50,14 @@ pub fn take_frame(
             last,
             kind,
             handler,
-        } => Came::Told(setup::enter_pairs(setup, book, first, last, kind, handler)),
+        } => Came::Told(setup::enter_pairs(setup, ledger, first, last, kind, handler)),
         Frame::Name {
             first,
             count,
             owner,
         } => Came::Told(setup::name_pages(setup, owners, named, first, count, owner)),
         Frame::Call { core } => of_call(calling::try_call(
-            setup, core, x, book, owners, saved, powers, turns, lists,
+            setup, core, x, ledger, owners, saved, powers, turns, lists,
         )),
         Frame::Arrival { core } => {
             Came::Told(arriving::make_arrival(setup, core, saved, powers, turns))

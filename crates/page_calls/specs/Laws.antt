@@ -1,8 +1,9 @@
 -- How the code's branches meet the table of transfers, and what a verdict makes of the call.
-use Rattle.std.specs.Prelude.{◌≡◌, refl, Bool, List, [], ◌∷◌, ℕ, eqb}
+use Rattle.std.specs.Prelude.{◌≡◌, refl, Bool, List, [], ◌∷◌, ℕ, eqb, Err, None, Ok, Option, Result, Some}
 use Rattle.std.proofs.Common.{◌∙◌}
 use Rattle.std.proofs.Math.Bool.{true, false}
 use borrow.Author.Tests.{eq-eqb, ne_eqb}
+use Rattle.judgements.specs.declared.Transfer.{Transfer}
 use Rattle.rules.specs.Choice.{pick, by}
 use Rattle.rules.specs.Sizes.{secure, normal, realm}
 use Rattle.rules.specs.Tests.{contraries, other_key}
@@ -10,18 +11,14 @@ use Rattle.rules.specs.declared.Reason.{Reason}
 use Rattle.pages.specs.declared.Window.{Window}
 use Rattle.mapping.specs.Lists.{held}
 use Rattle.transfers.specs.Transfer.{transfer_verdict}
-use Rattle.transfers.specs.declared.Verdict.{Verdict as Moving}
-use Rattle.transfers.specs.declared.Verdict.TheVariants as Moving
 use Rattle.judgements.specs.declared.Answer.TheVariants as Answer
 use Rattle.judgements.specs.declared.Deed.TheVariants as Deed
 use Rattle.judgements.specs.declared.Judged.{Judged}
-use Rattle.judgements.specs.declared.Row.{Row}
-use Rattle.judgements.specs.declared.Row.TheVariants.{Is, NoTransfer}
 use Rattle.judgements.specs.Judge.{denied, granted, one_of, takers, Listed, row_in, moving}
 use Rattle.page_calls.specs.declared.Ends.{Ends}
 
 -- ---- the table
-module _ (ls ms : List Listed) (h n key : ℕ) (r : Row) where
+module _ (ls ms : List Listed) (h n key : ℕ) (r : Option Transfer) where
   pub its_handler : h ≡ n → r ≡ row_in ls key → r ≡ row_in (pick (eqb h n) ls ms) key
   unfolding pick
   its_handler e f = rw (eq-eqb h n e) f
@@ -30,8 +27,8 @@ module _ (ls ms : List Listed) (h n key : ℕ) (r : Row) where
   unfolding pick
   other_handler e f = rw (ne_eqb h n e) f
 
-module _ (l : Listed) (ls : List Listed) (key : ℕ) (r : Row) where
-  pub row_here : key ≡ l.key → r ≡ Is l.transfer → r ≡ row_in (l ∷ ls) key
+module _ (l : Listed) (ls : List Listed) (key : ℕ) (r : Option Transfer) where
+  pub row_here : key ≡ l.key → r ≡ Some l.transfer → r ≡ row_in (l ∷ ls) key
   unfolding row_in pick
   row_here e f = rw (eq-eqb key l.key e) f
 
@@ -39,7 +36,7 @@ module _ (l : Listed) (ls : List Listed) (key : ℕ) (r : Row) where
   unfolding row_in pick
   row_later e f = rw e f
 
-pub no_row : (key : ℕ) (r : Row) → r ≡ NoTransfer → r ≡ row_in [] key
+pub no_row : (key : ℕ) (r : Option Transfer) → r ≡ None → r ≡ row_in [] key
 unfolding row_in
 no_row key r e = e
 
@@ -62,12 +59,12 @@ module _ (w : ℕ) (both : Bool) where
 pub ruleset callers = (may_secure, may_realm, may_not)
 
 -- ---- what a verdict makes of the call
-module _ (l : Moving) (count to : ℕ) (r : Judged) where
-  pub move_granted : (first : ℕ) → l ≡ Moving.Granted first → r ≡ granted Answer.Done (Deed.Move first count to) → r ≡ moving l count to
+module _ (l : Result ℕ Reason) (count to : ℕ) (r : Judged) where
+  pub move_granted : (first : ℕ) → l ≡ Ok first → r ≡ granted Answer.Done (Deed.Move first count to) → r ≡ moving l count to
   unfolding moving
   move_granted first e h = rw e h
 
-  pub move_no : (q : Reason) → l ≡ Moving.No q → r ≡ denied q → r ≡ moving l count to
+  pub move_no : (q : Reason) → l ≡ Err q → r ≡ denied q → r ≡ moving l count to
   unfolding moving
   move_no q e h = rw e h
 
@@ -77,7 +74,7 @@ pub ruleset verdicts = (move_granted, move_no)
 unfoldable pub ends_of : Bool → ℕ → Ends
 ends_of takes world = pick takes (record { from = normal; to = world }) (record { from = world; to = normal })
 
-pub moved_ends : (takes : Bool) (world : ℕ) (e : Ends) (w : Window) (o l : List ℕ) (x n : ℕ) (k : Moving) (r : Judged)
+pub moved_ends : (takes : Bool) (world : ℕ) (e : Ends) (w : Window) (o l : List ℕ) (x n : ℕ) (k : Result ℕ Reason) (r : Judged)
     → e ≡ ends_of takes world → k ≡ transfer_verdict w o (held l e.from) e.from x n → r ≡ moving k n e.to
     → r ≡ pick takes (moving (transfer_verdict w o (held l normal) normal x n) n world) (moving (transfer_verdict w o (held l world) world x n) n normal)
 unfolding ends_of pick

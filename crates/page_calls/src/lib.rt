@@ -1,46 +1,44 @@
 // Page transfers between Normal and the world that calls: one operation, over the rows of a small table.
 #![tactic(auto)]
 
-ghost use Rattle.std.specs.Prelude.{◌≡◌};
+ghost use Rattle.std.specs.Prelude.{◌≡◌, Some};
 ghost use Rattle.mapping.specs.Lists.{held};
 ghost use Rattle.rules.specs.Sizes.{normal};
 ghost use Rattle.judgements.specs.Judge.{one_of, row_of, may_transfer, moving, transferring};
 ghost use Rattle.judgements.specs.Read.{args_by};
-ghost use Rattle.judgements.specs.declared.Row.TheVariants.{Is};
 ghost use Rattle.page_calls.specs.Laws.{ends_of};
 
-use judgements::{Answer, Caller, Deed, Judged, Row, Transfer, grant, names, read_args, refuse};
+use judgements::{Answer, Caller, Deed, Judged, Transfer, grant, names, read_args, refuse};
 use mapping::Lists;
 use pages::Owners;
 use rules::Reason;
-use transfers::Verdict;
 
 // A row of the table of transfers.
-fn row(both: bool, takes: bool, count: u64) -> Row
-    ensures { result ≡ Is (record { both = both; takes = takes; count = count }) }
+fn row(both: bool, takes: bool, count: u64) -> Option<Transfer>
+    ensures { result ≡ Some (record { both = both; takes = takes; count = count }) }
 {
-    Row::Is(Transfer { both, takes, count })
+    Some(Transfer { both, takes, count })
 }
 
 // The table of transfers: the row of a call, by its handler and key. x2 is read by those that name a count.
-pub fn row_of(x: &[u64; 8], h: u64, key: u32) -> Row
+pub fn row_of(x: &[u64; 8], h: u64, key: u32) -> Option<Transfer>
     ensures { result ≡ row_of (args_by key x.now) h key }
 {
     if h == 2 {
         return match key {
             names::GRANULE_TO_REALM => row(false, true, 1),
             names::GRANULE_TO_NORMAL => row(false, false, 1),
-            _ => Row::NoTransfer,
+            _ => None,
         };
     }
     if h == 1 {
         return match key {
             names::TAKE_PAGES => row(true, true, read_args(key, x).x2),
             names::GIVE_PAGES => row(true, false, read_args(key, x).x2),
-            _ => Row::NoTransfer,
+            _ => None,
         };
     }
-    Row::NoTransfer
+    None
 }
 
 // Realm may call every transfer, and Secure some.
@@ -55,12 +53,12 @@ fn may_transfer(t: Transfer, world: u64) -> bool
 }
 
 // What a transfer's verdict makes of the call.
-fn moved(t: Verdict, count: u64, to: u64) -> Judged
+fn moved(t: Result<u64, Reason>, count: u64, to: u64) -> Judged
     ensures { result ≡ moving t count to }
 {
     match t {
-        Verdict::Granted(first) => grant(Answer::Done, Deed::Move { first, count, to }),
-        Verdict::No(r) => refuse(r),
+        Ok(first) => grant(Answer::Done, Deed::Move { first, count, to }),
+        Err(r) => refuse(r),
     }
 }
 

@@ -13,29 +13,97 @@
 // The first two have no name, and nothing is written of them.
 #![tactic(auto)]
 
-ghost use Rattle.std.specs.Prelude.{◌+◌, ◌≤◌, ◌<◌, length, IfOk};
+ghost use Rattle.std.specs.Prelude.{◌<◌, ◌≤◌, length, IfSome};
 
 use mapping::{Lists, Mapping};
 use pages::{Owners, Window};
 use rules::{ROOT, Reason};
+use signs::Signs;
 use std::io;
 
-// What a line asks for, and where its name begins.
+// The kind of a line, by its letter as it was read, and its numbers. It is made a `Step` at once, but for the first, whose letter counts
+// for nothing.
 #[derive(Clone, Copy)]
-struct Step {
+struct Line {
     kind: u8,
     a: u64,
     b: u64,
     c: u64,
     d: u64,
-    next: usize,
 }
 
-// A number that was read, and where the next one begins.
+impl Line {
+    fn window(self) -> Window {
+        Window {
+            base: self.a,
+            pages: self.b,
+        }
+    }
+
+    // What it asks for.
+    fn step(self) -> Step {
+        let Line { kind, a, b, c, d } = self;
+        match kind {
+            b'o' => Step::Open(self.window()),
+            b'g' => Step::Give {
+                first: a,
+                count: b,
+                world: c,
+            },
+            b'm' => Step::Map {
+                world: a,
+                mapping: Mapping {
+                    virt: c,
+                    phys: b,
+                    size: d,
+                    attr: 1,
+                },
+            },
+            b'u' => Step::Unmap {
+                world: a,
+                virt: b,
+                size: c,
+            },
+            b't' => Step::Transfer {
+                from: a,
+                to: b,
+                start: c,
+                count: d,
+            },
+            b'p' => Step::Owner(a),
+            b'k' => Step::Marks(a),
+            _ => Step::Judge(self.window()),
+        }
+    }
+}
+
+// What a line asks for.
 #[derive(Clone, Copy)]
-struct Read {
-    value: u64,
-    next: usize,
+enum Step {
+    Open(Window),
+    Give {
+        first: u64,
+        count: u64,
+        world: u64,
+    },
+    Judge(Window),
+    Map {
+        world: u64,
+        mapping: Mapping,
+    },
+    Unmap {
+        world: u64,
+        virt: u64,
+        size: u64,
+    },
+    Transfer {
+        from: u64,
+        to: u64,
+        start: u64,
+        count: u64,
+    },
+    Owner(u64),
+    Marks(u64),
 }
 
 // What came of a step.
@@ -46,127 +114,37 @@ enum Answer {
     Refused(Reason),
 }
 
-fn say(rt: &impl Print, text: &[u8]) -> io::Result<()> {
-    rt.write_all(text)
-}
-
-fn number(rt: &impl Print, sign: &str, n: u64) -> io::Result<()> {
-    println!(rt; "{sign}{n}")
-}
-
-fn marks(rt: &impl Print, n: u64) -> io::Result<()> {
-    println!(rt; ": {n:016x}")
-}
-
 fn say_answer(rt: &impl Print, a: Answer) -> io::Result<()> {
     match a {
-        Answer::Number(n) => number(rt, ": ", n),
-        Answer::Marks(n) => marks(rt, n),
-        Answer::Refused(r) => number(rt, ": -", rules::minus_of(r)),
+        Answer::Number(n) => println!(rt; ": {n}"),
+        Answer::Marks(n) => println!(rt; ": {n:016x}"),
+        Answer::Refused(r) => println!(rt; ": -{}", rules::minus_of(r)),
     }
 }
 
-// The value of a hexadecimal digit, 16 for any other sign.
-fn digit(sign: u8) -> u64
-    ensures { result ≤ 16 }
+// The next line; none at the end of the text.
+fn take_line(text: &mut Signs) -> Option<Line>
+    ensures { IfSome result (λ line. length text.new.left.now < length text.old.left.now) }
 {
-    let n = tools::wide(sign);
-    if n < 48 {
-        return 16;
-    }
-    if n < 58 {
-        return n - 48;
-    }
-    if n < 97 {
-        return 16;
-    }
-    if n < 103 {
-        return n - 87;
-    }
-    16
-}
-
-// The number that begins at `at`, up to a sign that is no digit. Of too many digits the last count.
-fn number_at(text: &[u8], at: usize) -> Read
-    requires { at ≤ length text.now }
-    ensures { (at ≤ result.next) × (result.next ≤ length text.now) }
-{
-    let mut value: u64 = 0;
-    let mut next = at;
-    while next < text.len() {
-        let d = digit(text[next]);
-        next += 1;
-        if 15 < d {
-            return Read { value, next };
-        }
-        value = value % 0x1000000000000000 * 16 + d;
-    }
-    Read { value, next }
-}
-
-fn step_at(text: &[u8], at: usize) -> Step
-    requires { at < length text.now }
-    ensures { (at < result.next) × (result.next ≤ length text.now) }
-{
-    let kind = text[at];
-    let a = number_at(text, at + 1);
-    let b = number_at(text, a.next);
-    let c = number_at(text, b.next);
-    let d = number_at(text, c.next);
-    Step {
-        kind,
-        a: a.value,
-        b: b.value,
-        c: c.value,
-        d: d.value,
-        next: d.next,
-    }
-}
-
-// Where the line that goes on at `at` ends.
-fn end_of(text: &[u8], at: usize) -> usize
-    requires { at ≤ length text.now }
-    ensures { (at ≤ result) × (result ≤ length text.now) }
-{
-    let mut end = at;
-    while end < text.len() {
-        if text[end] == b'\n' {
-            return end;
-        }
-        end += 1;
-    }
-    end
-}
-
-// Writes the rest of the line. It answers where the next line begins.
-fn say_name(rt: &impl Print, text: &[u8], at: usize) -> io::Result<usize>
-    requires { at ≤ length text.now }
-    ensures { IfOk result (λ next. (at ≤ next) × (next ≤ length text.now)) }
-{
-    let end = end_of(text, at);
-    say(rt, &text[at..end])?;
-    if end < text.len() {
-        return Ok(end + 1);
-    }
-    Ok(end)
-}
-
-fn window(base: u64, pages: u64) -> Answer {
-    let w = Window { base, pages };
-    if w.acceptable() {
-        return Answer::Number(1);
-    }
-    Answer::Number(0)
+    let (kind, left) = text.left.split_first()?;
+    text.left = left;
+    Some(Line {
+        kind: *kind,
+        a: text.number().0,
+        b: text.number().0,
+        c: text.number().0,
+        d: text.number().0,
+    })
 }
 
 fn map(w: Window, owners: &Owners, lists: &mut Lists, world: u64, m: Mapping) -> Answer {
     match mapping::judge_map(lists, owners, w, world, m) {
-        mapping::Verdict::Granted => {
+        Ok(mapping::Grant::Hold) => {
             mapping::hold(lists, world, m);
             Answer::Number(0)
         }
-        mapping::Verdict::Nothing => Answer::Number(0),
-        mapping::Verdict::No(r) => Answer::Refused(r),
+        Ok(mapping::Grant::Nothing) => Answer::Number(0),
+        Err(r) => Answer::Refused(r),
     }
 }
 
@@ -188,85 +166,90 @@ fn transfer(
     count: u64,
 ) -> Answer {
     match transfers::judge(w, owners, lists, from, start, count) {
-        transfers::Verdict::Granted(first) => {
+        Ok(first) => {
             pages::give(owners, first, count, to);
             Answer::Number(0)
         }
-        transfers::Verdict::No(r) => Answer::Refused(r),
+        Err(r) => Answer::Refused(r),
     }
 }
 
-// A mapping that may be written to.
-fn writable(phys: u64, virt: u64, size: u64) -> Mapping {
-    Mapping {
-        virt,
-        phys,
-        size,
-        attr: 1,
-    }
+// A window, its pages' owners, and what is mapped.
+#[derive(Drop)]
+struct Scene {
+    window: Window,
+    owners: Owners,
+    lists: Lists,
 }
 
-fn act(w: Window, owners: &mut Owners, lists: &mut Lists, s: Step) -> Answer {
-    let kind = s.kind;
-    match kind {
-        b'm' => map(w, owners, lists, s.a, writable(s.b, s.c, s.d)),
-        b'u' => unmap(lists, s.a, s.b, s.c),
-        b't' => transfer(w, owners, lists, s.a, s.b, s.c, s.d),
-        b'p' => Answer::Number(pages::owner_of(owners, s.a)),
-        b'k' => Answer::Marks(owners[(s.a % 256) as usize]),
-        _ => window(s.a, s.b),
-    }
-}
-
-// The step of a line. It answers where the next line begins.
-fn play(
-    rt: &impl Print,
-    text: &[u8],
-    at: usize,
-    w: Window,
-    owners: &mut Owners,
-    lists: &mut Lists,
-) -> io::Result<usize>
-    requires { at < length text.now }
-    ensures { IfOk result (λ next. (at < next) × (next ≤ length text.now)) }
-{
-    let s = step_at(text, at);
-    if s.kind == b'g' {
-        pages::give(owners, s.a, s.b, s.c);
-        return Ok(s.next);
-    }
-    let next = say_name(rt, text, s.next)?;
-    say_answer(rt, act(w, owners, lists, s))?;
-    Ok(next)
-}
-
-// The steps of one window. It answers where the next window's line begins.
-fn scene(rt: &impl Print, text: &[u8], at: usize) -> io::Result<usize>
-    requires { at < length text.now }
-    ensures { IfOk result (λ next. (at < next) × (next ≤ length text.now)) }
-{
-    let s = step_at(text, at);
-    let w = Window {
-        base: s.a,
-        pages: s.b,
-    };
-    let mut owners = pages::fresh_owners();
-    pages::give(&mut owners, 0, w.pages, ROOT);
-    let mut lists = mapping::fresh();
-    let mut next = s.next;
-    while next < text.len() {
-        if text[next] == b'o' {
-            return Ok(next);
+impl Scene {
+    fn open(window: Window) -> Scene {
+        let mut owners = pages::fresh_owners();
+        pages::give(&mut owners, 0, window.pages, ROOT);
+        Scene {
+            window,
+            owners,
+            lists: mapping::fresh(),
         }
-        next = play(rt, text, next, w, &mut owners, &mut lists)?;
     }
-    Ok(next)
+
+    // What comes of a step; nothing is said of the first two kinds.
+    fn act(&mut self, step: Step) -> Option<Answer> {
+        let answer = match step {
+            Step::Open(window) => {
+                *self = Scene::open(window);
+                return None;
+            }
+            Step::Give {
+                first,
+                count,
+                world,
+            } => {
+                pages::give(&mut self.owners, first, count, world);
+                return None;
+            }
+            Step::Judge(window) => Answer::Number(u64::from(window.acceptable())),
+            Step::Map { world, mapping } => map(
+                self.window,
+                &self.owners,
+                &mut self.lists,
+                world,
+                mapping,
+            ),
+            Step::Unmap { world, virt, size } => unmap(&mut self.lists, world, virt, size),
+            Step::Transfer {
+                from,
+                to,
+                start,
+                count,
+            } => transfer(
+                self.window,
+                &mut self.owners,
+                &self.lists,
+                from,
+                to,
+                start,
+                count,
+            ),
+            Step::Owner(page) => Answer::Number(pages::owner_of(&self.owners, page)),
+            Step::Marks(number) => Answer::Marks(self.owners[(number % 256) as usize]),
+        };
+        Some(answer)
+    }
 }
 
+// Plays each line; the first is a window whatever its kind.
 fn run(rt: &impl Print, text: &[u8]) -> io::Result<()> {
-    let mut at = 0;
-    while at < text.len() {
-        at = scene(rt, text, at)?;
+    let mut text = Signs { left: text };
+    let Some(first) = take_line(&mut text) else {
+        return Ok(());
+    };
+    let mut scene = Scene::open(first.window());
+    while let Some(line) = take_line(&mut text) {
+        if let Some(answer) = scene.act(line.step()) {
+            rt.write_all(text.through(b'\n'))?;
+            say_answer(rt, answer)?;
+        }
     }
     Ok(())
 }

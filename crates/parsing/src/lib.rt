@@ -53,21 +53,31 @@ pub enum Frame {
     Arrival {
         core: u64,
     },
+    // no error beside it, since `frame_of` and the theorems on a line take a refusal as one of its frames
     Refused(Status),
 }
 
-// The paper's byte of a status.
+impl From<Status> for u64 {
+    // The paper's byte of a status.
+    fn from(status: Status) -> u64
+        ensures { result ≡ status_byte status }
+    {
+        match status {
+            Status::Accepted => 0x00,
+            Status::NoHex => 0x71,
+            Status::Unknown => 0x72,
+            Status::Misplaced => 0x73,
+            Status::OutOfRange => 0x74,
+            Status::Clash => 0x75,
+        }
+    }
+}
+
+// The same, by name.
 pub fn byte_of(s: Status) -> u64
     ensures { result ≡ status_byte s }
 {
-    match s {
-        Status::Accepted => 0x00,
-        Status::NoHex => 0x71,
-        Status::Unknown => 0x72,
-        Status::Misplaced => 0x73,
-        Status::OutOfRange => 0x74,
-        Status::Clash => 0x75,
-    }
+    u64::from(s)
 }
 
 // 11: the window and the cores, eight bytes, two and one.
@@ -130,7 +140,7 @@ fn arrival(line: &[u8]) -> Frame
 fn sized(line: &[u8], bytes: u8, frame: Frame) -> Frame
     ensures { result ≡ sized line.now bytes frame }
 {
-    if line.len() == bytes as usize * 2 {
+    if line.len() == usize::from(bytes) * 2 {
         return frame;
     }
     Frame::Refused(Status::Unknown)
@@ -156,43 +166,17 @@ fn frame_of(line: &[u8]) -> Frame
     ensures { result ≡ frame_of line.now }
 {
     let n = line.len();
-    let odd = n % 2;
-    if n == 0 {
+    if n == 0 || n % 2 == 1 || MOST < n || !hex_digits::all_digits(line) {
         return Frame::Refused(Status::NoHex);
     }
-    if odd == 1 {
-        return Frame::Refused(Status::NoHex);
-    }
-    if MOST < n {
-        return Frame::Refused(Status::NoHex);
-    }
-    if hex_digits::all_digits(line) {
-        return known_frame(line);
-    }
-    Frame::Refused(Status::NoHex)
+    known_frame(line)
 }
 
 // Whether the numbers of a line are to be read too.
 fn is_call(frame: Frame) -> bool
     ensures { result ≡ is_call frame }
 {
-    match frame {
-        Frame::Site { base, pages, cores } => false,
-        Frame::Entry {
-            first,
-            last,
-            kind,
-            handler,
-        } => false,
-        Frame::Name {
-            first,
-            count,
-            owner,
-        } => false,
-        Frame::Call { core } => true,
-        Frame::Arrival { core } => false,
-        Frame::Refused(s) => false,
-    }
+    matches!(frame, Frame::Call { .. })
 }
 
 // The frame of a line, its bytes without the newline. A call's numbers are written to `xs`.

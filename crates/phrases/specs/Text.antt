@@ -1,12 +1,12 @@
 -- The text of a sentence: that of each piece behind those before it.
-use Rattle.std.specs.Prelude.{◌≡◌, ℕ, zero, suc, ◌+◌, ◌-◌, ◌*◌, ◌^◌, ◌≤◌, ◌<◌, ltb, leb}
+use Rattle.std.specs.Prelude.{◌≡◌, ℕ, zero, suc, ◌+◌, ◌-◌, ◌*◌, ◌^◌, ◌≤◌, ◌<◌, min, ltb, leb, get_or, take}
 use Rattle.std.proofs.Math.Path.{refl, ap, subst}
-use Rattle.std.proofs.Common.{◌∙◌, arith, lt-ltb, le-ltb, le-leb, ltb-true}
+use Rattle.std.proofs.Common.{◌∙◌, arith, le-leb, ltb-true, ltb-false, length-take, get_or-take}
 use mathlib.Core.List.{List, [], ◌∷◌, ◌++◌}
 use Rattle.std.proofs.Math.Numerals.{add-one}
 use Rattle.std.proofs.Math.ListN.{length, length-append}
 use Rattle.std.proofs.lemmas.Bool.{lt-leb}
-use Rattle.rules.specs.Choice.{pick, picked, passed, chosen}
+use Rattle.rules.specs.Choice.{pick, picked, passed, chosen, either}
 use Rattle.tools.specs.Laid.{laid, put, laid_append, put_fits}
 use Rattle.hex_digits.specs.Hex.{in_hex, length_hex}
 use Rattle.hex_write.specs.Put.{Laid, was_put, put_then}
@@ -154,84 +154,12 @@ pub line_short : (s : Sentence) → length (line_text s) ≤ longest
 unfolding line_text
 line_short s = omega (arith, length-append (text_of s) (10 ∷ []), text_short s)
 
--- ---- how the code's branches meet a piece
-module _ (x : ℕ) where
-  pub indent_five : x < 10 → 5 ≡ indent x
-  unfolding indent
-  indent_five h = picked _ _ _ _ (lt-ltb x 10 h) refl
-
-  module _ (more : 10 ≤ x) where
-    past_one : (a b n : ℕ) → n ≡ b → n ≡ pick (ltb x 10) a b
-    past_one a b n e = passed _ _ _ _ (le-ltb x 10 more) e
-
-    pub indent_four : x < 100 → 4 ≡ indent x
-    unfolding indent
-    indent_four h = past_one _ _ _ (picked _ _ _ _ (lt-ltb x 100 h) refl)
-
-    pub indent_three : 100 ≤ x → x < 1000 → 3 ≡ indent x
-    unfolding indent
-    indent_three g h = past_one _ _ _ (passed _ _ _ _ (le-ltb x 100 g) (picked _ _ _ _ (lt-ltb x 1000 h) refl))
-
-    pub indent_two : 1000 ≤ x → x < 10000 → 2 ≡ indent x
-    unfolding indent
-    indent_two g h = past_one _ _ _ (passed _ _ _ _ (le-ltb x 100 (omega arith)) (passed _ _ _ _ (le-ltb x 1000 g) (picked _ _ _ _ (lt-ltb x 10000 h) refl)))
-
-    pub indent_one : 10000 ≤ x → x < 100000 → 1 ≡ indent x
-    unfolding indent
-    indent_one g h =
-        past_one _ _ _ (passed _ _ _ _ (le-ltb x 100 (omega arith)) (passed _ _ _ _ (le-ltb x 1000 (omega arith)) (passed _ _ _ _ (le-ltb x 10000 g) (picked _ _ _ _ (lt-ltb x 100000 h) refl))))
-
-    pub indent_none : 100000 ≤ x → 0 ≡ indent x
-    unfolding indent
-    indent_none g =
-        past_one _ _ _ (passed _ _ _ _ (le-ltb x 100 (omega arith)) (passed _ _ _ _ (le-ltb x 1000 (omega arith)) (passed _ _ _ _ (le-ltb x 10000 (omega arith)) (passed _ _ _ _ (le-ltb x 100000 g) refl))))
-
-pub ruleset indents = (indent_five, indent_four, indent_three, indent_two, indent_one, indent_none)
-
+-- ---- how the code meets a piece
 pub right_put : (o o₁ p : List ℕ) (at a b less x n m : ℕ) → at + 96 ≤ length o → n ≡ indent x → m ≡ n - less → (a, o₁) ≡ put o at (blanks m) → (b, p) ≡ put o₁ a (decimal_text x) → (b, p) ≡ put o at (right_text less x)
 unfolding right_text
 right_put o o₁ p at a b less x n m h e d f g =
     let k = indent x - less in
     put_then o o₁ p at a b _ _ (blanks k) (decimal_text x) refl refl (omega (arith, right_short less x, length-append (blanks k) (decimal_text x))) (rw (d, e) at f) g
-
-module _ (x : ℕ) (o p : List ℕ) (at b : ℕ) where
-  pub hex_eight : x < 0x100000000 → (b, p) ≡ put o at (in_hex 8 x) → (b, p) ≡ put o at (hex_text x)
-  unfolding hex_text
-  hex_eight h e = e ∙ ap (put o at) (picked _ _ _ _ (lt-ltb x 0x100000000 h) refl)
-
-  pub hex_twelve : 0x100000000 ≤ x → x < 0x1000000000000 → (b, p) ≡ put o at (in_hex 12 x) → (b, p) ≡ put o at (hex_text x)
-  unfolding hex_text
-  hex_twelve g h e = e ∙ ap (put o at) (passed _ _ _ _ (le-ltb x 0x100000000 g) (picked _ _ _ _ (lt-ltb x 0x1000000000000 h) refl))
-
-  pub hex_sixteen : 0x1000000000000 ≤ x → (b, p) ≡ put o at (in_hex 16 x) → (b, p) ≡ put o at (hex_text x)
-  unfolding hex_text
-  hex_sixteen h e = e ∙ ap (put o at) (passed _ _ _ _ (le-ltb x 0x100000000 (omega arith)) (passed _ _ _ _ (le-ltb x 0x1000000000000 h) refl))
-
-  pub value_two : x < 0x100 → (b, p) ≡ put o at (in_hex 2 x) → (b, p) ≡ put o at (value_text x)
-  unfolding value_text
-  value_two h e = e ∙ ap (put o at) (picked _ _ _ _ (lt-ltb x 0x100 h) refl)
-
-  pub value_four : 0x100 ≤ x → x < 0x10000 → (b, p) ≡ put o at (in_hex 4 x) → (b, p) ≡ put o at (value_text x)
-  unfolding value_text
-  value_four g h e = e ∙ ap (put o at) (passed _ _ _ _ (le-ltb x 0x100 g) (picked _ _ _ _ (lt-ltb x 0x10000 h) refl))
-
-  pub value_more : 0x10000 ≤ x → (b, p) ≡ put o at (hex_text x) → (b, p) ≡ put o at (value_text x)
-  unfolding value_text
-  value_more h e = e ∙ ap (put o at) (passed _ _ _ _ (le-ltb x 0x100 (omega arith)) (passed _ _ _ _ (le-ltb x 0x10000 h) refl))
-
-module _ (w c : ℕ) (o p : List ℕ) (at b : ℕ) where
-  pub gap_wide : w < c → (b, p) ≡ put o at (blanks (c - w)) → (b, p) ≡ put o at (gap_text w c)
-  unfolding gap_text
-  gap_wide h e = e ∙ ap (λ (n : ℕ). put o at (blanks n)) (picked _ _ _ _ (lt-ltb w c h) refl)
-
-  pub gap_one : c ≤ w → (b, p) ≡ put o at (blanks 1) → (b, p) ≡ put o at (gap_text w c)
-  unfolding gap_text
-  gap_one h e = e ∙ ap (λ (n : ℕ). put o at (blanks n)) (passed _ _ _ _ (le-ltb w c h) refl)
-
-pub ruleset parts = (right_put, hex_eight, hex_twelve, hex_sixteen, value_two, value_four, value_more, gap_wide, gap_one)
-
-pub one_piece : (w at b : ℕ) (o o' : List ℕ) (p q : Piece) → p ≡ q → (b, o') ≡ put o at (piece_text w q) → (b, o') ≡ put o at (piece_text w p)
-one_piece w at b o o' p q e h = rw e h
 
 -- ---- piece behind piece: i of them stand, `here` is the place behind them, and so many signs count for the columns
 pub record Said (o₀ o : List ℕ) (s : Sentence) (at here width i : ℕ) : Type 0 where
@@ -301,13 +229,18 @@ module _ (o₀ o : List ℕ) (s : Sentence) (at here width i : ℕ) (d : Said o�
       let f = put_fits o₀ at l (length l) refl o (omega (arith, d.place, d.high, d.few)) d.is in
       subst (λ (n : ℕ). (here, o) ≡ put o₀ at (upto s n).0) z (rw d.place f)
 
-  pub said_all : s.count ≤ i → i < 32 → at + 3072 ≤ length o₀ → (here, o) ≡ put o₀ at (text_of s)
-  said_all h g = said_so (picked _ _ _ _ (lt-ltb s.count most (omega arith)) (omega (arith, d.inside)))
+  pub said_all : (n : ℕ) → n ≡ min s.count 32 → length s.pieces ≡ 32 → length (take n s.pieces) ≤ i → at + 3072 ≤ length o₀ → (here, o) ≡ put o₀ at (text_of s)
+  said_all n f l g =
+      let t = length-take n s.pieces in
+      either (ltb s.count most)
+      (λ y. let h : s.count < most = ltb-true _ _ y in said_so (picked _ _ _ _ y (omega (arith, d.inside))))
+      (λ y. let h : most ≤ s.count = ltb-false _ _ y in said_so (passed _ _ _ _ y (omega (arith, d.few))))
 
-  pub said_most : 32 ≤ i → at + 3072 ≤ length o₀ → (here, o) ≡ put o₀ at (text_of s)
-  said_most h = said_so (passed _ _ _ _ (le-ltb s.count most (omega (arith, d.inside))) (omega (arith, d.few)))
-
-pub ruleset saying = (said_none, said_on, said_room, said_more, said_all, said_most)
+-- a piece of those that are taken is one of the sentence's
+pub taken : (s : Sentence) (n i : ℕ) → n ≡ min s.count 32 → i < length (take n s.pieces) → (i < 32) × (i < s.count) × (get_or (take n s.pieces) i (Word 0) ≡ piece_at s i)
+taken s n i f h =
+    let t = length-take n s.pieces in
+    (omega arith, omega arith, get_or-take n s.pieces i (Word 0) (omega arith))
 
 -- ---- the line, put or not
 module _ (s : Sentence) (o : List ℕ) (at : ℕ) where

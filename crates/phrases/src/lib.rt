@@ -3,7 +3,7 @@
 
 ghost use Rattle.std.specs.Prelude.{◌≡◌, ◌+◌, ◌-◌, ◌≤◌, length};
 ghost use Rattle.tools.specs.Laid.{put};
-ghost use Rattle.phrases.specs.Sentence.{kind_of, value_of, piece_of, blank, ◌▹◌};
+ghost use Rattle.phrases.specs.Sentence.{blank, ◌▹◌};
 ghost use Rattle.phrases.specs.Text.{indent, right_text, hex_text, value_text, gap_text, piece_text, in_columns, text_of, line_text, told};
 
 // A piece of a sentence.
@@ -32,54 +32,11 @@ const SIGNS: usize = 96;
 
 pub const LONGEST: usize = PIECES * SIGNS + 1;
 
-// A sentence: the kind and the value of each of its pieces, and how many it has.
+// A sentence: its pieces, and how many it has.
 #[derive(Clone, Copy)]
 pub struct Sentence {
-    pub kinds: [u64; 32],
-    pub values: [u64; 32],
+    pub pieces: [Piece; 32],
     pub count: u64,
-}
-
-fn kind_of(p: Piece) -> u64
-    ensures { result ≡ kind_of p }
-{
-    match p {
-        Piece::Word(_) => 0,
-        Piece::Number(_) => 1,
-        Piece::Right(_) => 2,
-        Piece::Line(_) => 3,
-        Piece::Hex(_) => 4,
-        Piece::Value(_) => 5,
-        Piece::Column(_) => 6,
-    }
-}
-
-fn value_of(p: Piece) -> u64
-    ensures { result ≡ value_of p }
-{
-    match p {
-        Piece::Word(x) => x,
-        Piece::Number(x) => x,
-        Piece::Right(x) => x,
-        Piece::Line(x) => x,
-        Piece::Hex(x) => x,
-        Piece::Value(x) => x,
-        Piece::Column(x) => x,
-    }
-}
-
-fn piece_of(kind: u64, value: u64) -> Piece
-    ensures { result ≡ piece_of kind value }
-{
-    match kind {
-        0 => Piece::Word(value),
-        1 => Piece::Number(value),
-        2 => Piece::Right(value),
-        3 => Piece::Line(value),
-        4 => Piece::Hex(value),
-        5 => Piece::Value(value),
-        _ => Piece::Column(value),
-    }
 }
 
 impl Sentence {
@@ -88,8 +45,7 @@ impl Sentence {
         ensures { result ≡ blank }
     {
         Sentence {
-            kinds: [0; 32],
-            values: [0; 32],
+            pieces: [Piece::Word(0); 32],
             count: 0,
         }
     }
@@ -100,57 +56,38 @@ impl Sentence {
     {
         let n = self.count as usize;
         if n < PIECES {
-            let kind = kind_of(p);
-            let value = value_of(p);
-            self.kinds[n] = kind;
-            self.values[n] = value;
-            self.count = n as u64 + 1;
+            self.pieces[n] = p;
+            self.count += 1;
         }
         self
     }
 }
 
 // How many blanks stand before a number that takes six signs or more.
+#[tactic(auto, unfolding(crate::specs::Text::indent, rules::specs::Choice::pick))]
 fn indent(x: u64) -> usize
     ensures { result ≡ indent x }
 {
-    if x < 10 {
-        return 5;
+    match x {
+        0..=9 => 5,
+        10..=99 => 4,
+        100..=999 => 3,
+        1000..=9999 => 2,
+        10000..=99999 => 1,
+        _ => 0,
     }
-    if x < 100 {
-        return 4;
-    }
-    if x < 1000 {
-        return 3;
-    }
-    if x < 10000 {
-        return 2;
-    }
-    if x < 100000 {
-        return 1;
-    }
-    0
-}
-
-// The same, where it takes so many signs fewer.
-fn fewer(blanks: usize, less: usize) -> usize
-    ensures { result ≡ blanks - less }
-{
-    if blanks < less {
-        return 0;
-    }
-    blanks - less
 }
 
 fn put_right(out: &mut [u8], at: usize, less: usize, x: u64) -> usize
     requires { at + 96 ≤ length out.old }
     ensures { (result, out.new) ≡ put out.old at (right_text less x) }
 {
-    let a = writing::put_blanks(out, at, fewer(indent(x), less));
+    let a = writing::put_blanks(out, at, indent(x).saturating_sub(less));
     writing::put_decimal(out, a, x)
 }
 
 // An address in eight digits, or in twelve or sixteen where it needs more.
+#[tactic(auto, unfolding(crate::specs::Text::hex_text, rules::specs::Choice::pick))]
 pub fn put_hex(out: &mut [u8], at: usize, x: u64) -> usize
     ensures { (result, out.new) ≡ put out.old at (hex_text x) }
 {
@@ -164,6 +101,7 @@ pub fn put_hex(out: &mut [u8], at: usize, x: u64) -> usize
 }
 
 // A value in two or four digits, or in those of an address where it needs more.
+#[tactic(auto, unfolding(crate::specs::Text::value_text, rules::specs::Choice::pick))]
 fn put_value(out: &mut [u8], at: usize, x: u64) -> usize
     ensures { (result, out.new) ≡ put out.old at (value_text x) }
 {
@@ -176,14 +114,13 @@ fn put_value(out: &mut [u8], at: usize, x: u64) -> usize
     put_hex(out, at, x)
 }
 
+#[tactic(auto, unfolding(crate::specs::Text::gap_text, rules::specs::Choice::pick))]
 fn put_gap(out: &mut [u8], at: usize, width: usize, column: u64) -> usize
     ensures { (result, out.new) ≡ put out.old at (gap_text width column) }
 {
     let c = column as usize;
-    if width < c {
-        return writing::put_blanks(out, at, c - width);
-    }
-    writing::put_blanks(out, at, 1)
+    let blanks = if width < c { c - width } else { 1 };
+    writing::put_blanks(out, at, blanks)
 }
 
 // A piece, behind so many signs that count for the columns.
@@ -207,13 +144,8 @@ fn in_columns(p: Piece, signs: usize) -> usize
     ensures { result ≡ in_columns p signs }
 {
     match p {
-        Piece::Word(_) => signs,
-        Piece::Number(_) => signs,
-        Piece::Right(_) => signs,
         Piece::Line(_) => 6,
-        Piece::Hex(_) => signs,
-        Piece::Value(_) => signs,
-        Piece::Column(_) => signs,
+        _ => signs,
     }
 }
 
@@ -222,19 +154,13 @@ fn put_pieces(out: &mut [u8], at: usize, s: Sentence) -> usize
     requires { at + 3072 ≤ length out.old }
     ensures { (result, out.new) ≡ put out.old at (text_of s) }
 {
-    let n = s.count as usize;
+    let n = (s.count as usize).min(PIECES);
     let mut here = at;
     let mut width: usize = 0;
-    let mut i: usize = 0;
-    while i < PIECES {
-        if n <= i {
-            return here;
-        }
-        let p = piece_of(s.kinds[i], s.values[i]);
-        let next = put_piece(out, here, width, p);
-        width += in_columns(p, next - here);
+    for p in &s.pieces[..n] {
+        let next = put_piece(out, here, width, *p);
+        width += in_columns(*p, next - here);
         here = next;
-        i += 1;
     }
     here
 }
@@ -244,10 +170,7 @@ fn put_pieces(out: &mut [u8], at: usize, s: Sentence) -> usize
 pub fn put_line(out: &mut [u8], at: usize, s: Sentence) -> usize
     ensures { (result, out.new) ≡ told out.old at (line_text s) }
 {
-    if out.len() < LONGEST {
-        return at;
-    }
-    if out.len() - LONGEST < at {
+    if out.len() < LONGEST || out.len() - LONGEST < at {
         return at;
     }
     let e = put_pieces(out, at, s);

@@ -1,14 +1,13 @@
 -- The window as a picture: rows of 64 letters, one a page by its owner, mapped pages in capitals, each behind its first address.
 use Rattle.std.proofs.Math.Path.{◌≡◌, refl}
 use Rattle.std.proofs.Common.{sym, ◌∙◌}
-use Rattle.std.specs.Prelude.{Bool, false, ltb, eqb, set, get_or}
-use Rattle.std.proofs.Math.Bool.{true}
+use Rattle.std.specs.Prelude.{Bool, true, false, ltb, set, get_or, min}
 use mathlib.Core.List.{List, [], ◌∷◌, ◌++◌}
 use Prim.Native.Nat.{ℕ, zero, suc, ◌+◌, ◌-◌, ◌≤◌, ◌<◌}
 use Rattle.std.proofs.Math.Numerals.{add-one}
 use native.Mathlib.Omega.{arith}
-use Rattle.std.proofs.Math.ListN.{length, get_or-eq_default, length-append}
-use borrow.Author.Tests.{lt-ltb, le-ltb, le-leb, lt-leb, ltb-true, eqb-true, eqb-false}
+use Rattle.std.proofs.Math.ListN.{length, length-append}
+use borrow.Author.Tests.{le-leb, lt-leb, ltb-true, ltb-false}
 use Rattle.rules.specs.Choice.{pick, picked, passed, pick_yes, chosen, either}
 use Rattle.tools.specs.Laid.{laid, put, put_fits}
 use Rattle.hex_digits.specs.Signs.{signs}
@@ -53,26 +52,14 @@ row_text w o l page =
     address ++ (blanks (row_column w - length address) ++ (drawn w o l page (row_length w.pages page) ++ 10 ∷ []))
 
 -- ---- how the code meets a letter
-letter_past : (u : ℕ) (b : Bool) → 4 ≤ u → 63 ≡ letter_of u b
-unfolding letter_of pick
-letter_past u true h = sym (get_or-eq_default (signs "?SNR") 63 h)
-letter_past u false h = sym (get_or-eq_default (signs ".snr") 63 h)
-
-module _ (u : ℕ) (b : Bool) where
-  pub capital_row : (n r : ℕ) → b ≡ true → u ≡ n → r ≡ letter_of n true → r ≡ letter_of u b
-  capital_row n r e f h = rw (e, f) h
-
-  pub capital_none : b ≡ true → (u ≡ 1 → ⊥) → (u ≡ 2 → ⊥) → (u ≡ 3 → ⊥) → 63 ≡ letter_of u b
+module _ (u r : ℕ) (b : Bool) (l : List ℕ) (e : r ≡ get_or l u 63) where
+  pub letter_capital : b ≡ true → l ≡ signs "?SNR" → r ≡ letter_of u b
   unfolding letter_of pick
-  capital_none e x y z = rw e (either (eqb u 0) (λ k. let q : u ≡ 0 = eqb-true u 0 k in rw q) (λ k. letter_past u true (let q = eqb-false u 0 k in omega arith)))
+  letter_capital y f = e ∙ rw (y, f)
 
-  pub small_row : (n r : ℕ) → b ≡ false → u ≡ n → r ≡ letter_of n false → r ≡ letter_of u b
-  small_row n r e f h = rw (e, f) h
-
-  pub small_none : b ≡ false → (u ≡ 0 → ⊥) → (u ≡ 1 → ⊥) → (u ≡ 2 → ⊥) → (u ≡ 3 → ⊥) → 63 ≡ letter_of u b
-  small_none e v x y z = rw e (letter_past u false (omega arith))
-
-pub ruleset letters = (capital_row, capital_none, small_row, small_none)
+  pub letter_small : b ≡ false → l ≡ signs ".snr" → r ≡ letter_of u b
+  unfolding letter_of pick
+  letter_small k f = e ∙ rw (k, f)
 
 pub letter_so : (w : Window) (o l : List ℕ) (page u a : ℕ) (b : Bool) (r : ℕ) → u ≡ owner o page → a ≡ address_of w page → b ≡ meets_run (held l u) a 1 → r ≡ letter_of u b → r ≡ letter_at w o l page
 unfolding letter_at
@@ -96,34 +83,25 @@ module _ (w : Window) (o l : List ℕ) where
   drawn_none t here page (suc n) h = absurd (omega arith)
 
   module _ (t k : List ℕ) (here page n : ℕ) (i : k ≡ laid t here (drawn w o l page n)) where
-    pub draw_goes : (v : ℕ) → 0 < n → v ≡ letter_at w o l page → k ≡ laid (set t here v) (here + 1) (drawn w o l (page + 1) (n - 1))
-    draw_goes v h e = i ∙ drawn_next t here page n v h e
+    pub draw_goes : (v here' page' m : ℕ) → 0 < n → v ≡ letter_at w o l page → here' ≡ here + 1 → page' ≡ page + 1 → m ≡ n - 1 → k ≡ laid (set t here v) here' (drawn w o l page' m)
+    draw_goes v here' page' m h e p q r = i ∙ rw (p, q, r) (drawn_next t here page n v h e)
 
     pub draw_ends : n ≤ 0 → t ≡ k
     draw_ends h = sym (i ∙ drawn_none t here page n h)
 
   -- the place behind the letters
-  pub draw_put : (s t : List ℕ) (at page count here n later : ℕ) → laid s at (drawn w o l page count) ≡ laid t here (drawn w o l later n) → n ≤ 0 → here + n ≡ at + count → at + count ≤ length s
-      → (here, t) ≡ put s at (drawn w o l page count)
-  draw_put s t at page count here n later i h e fits =
-      let z : here ≡ at + count = omega arith in
-      rw z (put_fits s at (drawn w o l page count) count (length_drawn count page) t fits (draw_ends t _ here later n i h))
+  pub draw_put : (s t : List ℕ) (at page count here n later r : ℕ) → laid s at (drawn w o l page count) ≡ laid t here (drawn w o l later n) → n ≤ 0 → here + n ≡ at + count → r ≡ at + count → at + count ≤ length s
+      → (r, t) ≡ put s at (drawn w o l page count)
+  draw_put s t at page count here n later r i h e z fits = rw z (put_fits s at (drawn w o l page count) count (length_drawn count page) t fits (draw_ends t _ here later n i h))
 
 -- ---- how many letters
 module _ (pages page : ℕ) where
-  pub row_none : pages < page → 0 ≡ row_length pages page
+  pub lengths : (r : ℕ) → r ≡ min (pages - page) row_pages → r ≡ row_length pages page
   unfolding row_length
-  row_none h = picked _ _ _ _ (lt-ltb (pages - page) row_pages (omega arith)) (omega arith)
-
-  pub row_short : pages - page < row_pages → pages - page ≡ row_length pages page
-  unfolding row_length
-  row_short h = picked _ _ _ _ (lt-ltb (pages - page) row_pages h) refl
-
-  pub row_full : row_pages ≤ pages - page → row_pages ≡ row_length pages page
-  unfolding row_length
-  row_full h = passed _ _ _ _ (le-ltb (pages - page) row_pages h) refl
-
-pub ruleset lengths = (row_none, row_short, row_full)
+  lengths r e =
+      either (ltb (pages - page) row_pages)
+      (λ y. picked _ _ _ _ y (omega (arith, ltb-true _ _ y)))
+      (λ k. passed _ _ _ _ k (omega (arith, ltb-false _ _ k)))
 
 -- ---- a row, part behind part
 module _ (w : Window) where
@@ -210,3 +188,5 @@ module _ (w : Window) (o l : List ℕ) (page : ℕ) where
   pub row_not : (out : List ℕ) (at : ℕ) → length out < at + longest → (at, out) ≡ told out at (row_text w o l page)
   unfolding told
   row_not out at h = passed _ _ _ _ (lt-leb (at + longest) (length out) h) refl
+
+pub ruleset laws = (letter_so, lengths, columns, row_told, row_not)

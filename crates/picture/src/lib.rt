@@ -1,7 +1,7 @@
 // The window as a picture: rows of 64 letters, one a page by its owner, mapped pages in capitals, each behind its first address.
-#![tactic(auto)]
+#![tactic(auto, using(crate::specs::Picture::laws))]
 
-ghost use Rattle.std.specs.Prelude.{◌≡◌, ◌+◌, ◌-◌, ◌≤◌, length};
+ghost use Rattle.std.specs.Prelude.{◌≡◌, ◌+◌, ◌≤◌, length};
 ghost use Rattle.tools.specs.Laid.{put};
 ghost use Rattle.phrases.specs.Text.{told};
 ghost use Rattle.picture.specs.Picture.{letter_of, letter_at, drawn, row_length, row_column, row_text};
@@ -9,7 +9,6 @@ ghost use Rattle.picture.specs.Picture.{letter_of, letter_at, drawn, row_length,
 use mapping::Lists;
 use pages::{Owners, Window};
 use phrases::LONGEST;
-use rules::{NORMAL, REALM, ROOT, SECURE};
 
 // How many pages a row has.
 pub const ROW: u64 = 64;
@@ -18,21 +17,8 @@ pub const ROW: u64 = 64;
 fn letter(owner: u64, mapped: bool) -> u8
     ensures { result ≡ letter_of owner mapped }
 {
-    if mapped {
-        return match owner {
-            SECURE => b'S',
-            NORMAL => b'N',
-            REALM => b'R',
-            _ => b'?',
-        };
-    }
-    match owner {
-        ROOT => b'.',
-        SECURE => b's',
-        NORMAL => b'n',
-        REALM => b'r',
-        _ => b'?',
-    }
+    let letters = if mapped { b"?SNR" } else { b".snr" };
+    letters.get(owner as usize).copied().unwrap_or(b'?')
 }
 
 // The letter of a page: it is mapped where its owner maps it.
@@ -57,49 +43,24 @@ fn draw(
     requires { (at + count ≤ length out.old) × (first + count ≤ 0xFFFFFFFFFFFFFFFF) }
     ensures { (result, out.new) ≡ put out.old at (drawn w owners.now lists.now first count) }
 {
-    let mut page = first;
-    let mut here = at;
-    let mut unseen = count;
-    while 0 < unseen {
-        out[here] = letter_at(w, owners, lists, page);
-        page += 1;
-        here += 1;
-        unseen -= 1;
+    for k in 0..count {
+        out[at + k] = letter_at(w, owners, lists, first + k as u64);
     }
-    here
+    at + count
 }
 
 // How many pages the row from this page on has.
 fn row_length(pages: u64, first: u64) -> usize
     ensures { (result ≡ row_length pages first) × (result ≤ 64) × (first + result ≤ 0xFFFFFFFFFFFFFFFF) }
 {
-    if pages < first {
-        return 0;
-    }
-    if pages - first < ROW {
-        return (pages - first) as usize;
-    }
-    ROW as usize
-}
-
-// How many blanks are left before a column.
-fn left_of(column: usize, a: usize) -> usize
-    ensures { result ≡ column - a }
-{
-    if column < a {
-        return 0;
-    }
-    column - a
+    pages.saturating_sub(first).min(ROW) as usize
 }
 
 // The column in which the letters begin.
 fn row_column(w: Window) -> usize
     ensures { result ≡ row_column w }
 {
-    if standing::is_wide(w) {
-        return 18;
-    }
-    10
+    if standing::is_wide(w) { 18 } else { 10 }
 }
 
 // A row: its first address, and its letters.
@@ -116,7 +77,7 @@ fn put_letters(
     ensures { (result, out.new) ≡ put out.old at (row_text w owners.now lists.now first) }
 {
     let a = phrases::put_hex(out, at, standing::address_of(w, first));
-    let b = writing::put_blanks(out, a, left_of(row_column(w), a - at));
+    let b = writing::put_blanks(out, a, row_column(w).saturating_sub(a - at));
     let c = draw(out, b, w, owners, lists, first, n);
     hex_write::put_end(out, c)
 }
@@ -133,10 +94,7 @@ pub fn put_row(
 ) -> usize
     ensures { (result, out.new) ≡ told out.old at (row_text w owners.now lists.now first) }
 {
-    if out.len() < LONGEST {
-        return at;
-    }
-    if out.len() - LONGEST < at {
+    if out.len() < LONGEST || out.len() - LONGEST < at {
         return at;
     }
     let n = row_length(w.pages, first);

@@ -1,18 +1,19 @@
 -- The lowest place of a world that answers a question, where a new mapping goes, whether a place clashes with it, and the searches for them.
-use Rattle.std.specs.Prelude.{◌≡◌, refl, Bool, true, false, List, ℕ, suc, ◌+◌, ◌-◌, ◌≤◌, ◌<◌, ltb, eqb}
+use Rattle.std.specs.Prelude.{◌≡◌, refl, Bool, true, false, Option, Some, None, List, ℕ, ◌+◌, ◌-◌, ◌≤◌, ◌<◌, ltb, eqb}
 use Rattle.std.proofs.Math.Path.{sym}
 use Rattle.std.proofs.Common.{◌∙◌}
 use native.Mathlib.Omega.{arith}
-use borrow.Author.Tests.{lt-ltb, le-ltb, ltb-true, ltb-false, eq-eqb, ne_eqb, eqb-true}
-use Rattle.rules.specs.Choice.{pick, picked, passed, pick_yes, pick_no, either, chosen, right_false}
-use Rattle.rules.specs.Sizes.{worlds}
+use borrow.Author.Tests.{lt-ltb, le-ltb, ltb-true, ltb-false, ne_eqb, eqb-true}
+use Rattle.rules.specs.Choice.{pick, picked, passed, pick_yes, pick_no, either, chosen, right_false, yes_or_no}
 use Rattle.ranges.specs.Mapping.{exact}
-use Rattle.tools.specs.Search.{first, first_is, first_goes, first_stops, first_ends, any, any_goes, any_stops, any_if_not}
+use Rattle.tools.specs.Search.{first, first_is, first_by, first_blind, any, any_by, any_if_not}
 use Rattle.ranges.specs.Question.{is_free, asks_free, asks, answers, clashing}
 use Rattle.ranges.specs.declared.Mapping.{Mapping}
 use Rattle.ranges.specs.declared.Question.{Question}
 use Rattle.ranges.specs.declared.Question.TheVariants.{Free, Exact}
-use Rattle.places.specs.Table.{places, place, blank, reach, raw, upto, upto_below, upto_here, upto_most, upto_fails, upto_passes, upto_past, upto_same, behind, behind_last, behind_held, used, used_reach, used_free, used_same, reach_most, reach_world, place_out, place_asked}
+use Rattle.std.specs.Option.{unwrap_or, is_some}
+use Rattle.places.specs.Seek.{NonePass, Lowest, ToLast}
+use Rattle.places.specs.Table.{places, place, blank, reach, raw, upto, upto_most, upto_fails, upto_passes, upto_past, upto_same, used, used_reach, used_free, used_same, reach_most, place_out, place_asked}
 
 -- what is asked of each place
 abbrev pub asked : List ℕ → ℕ → Question → ℕ → Bool
@@ -51,86 +52,56 @@ blank_clashes : (n : Mapping) → clashing n blank ≡ false
 unfolding clashing
 blank_clashes n = pick_yes (is_free blank) _ _ refl
 
--- nobody answers
-first_blind : (p : ℕ → Bool) (a n : ℕ) → ((j : ℕ) → a ≤ j → p j ≡ false) → first p a n ≡ a + n
-first_blind p a n h =
-    let r = first_is p a n in
-    either (ltb (first p a n) (a + n))
-    (λ y. let z : true ≡ false = sym (r.passes (ltb-true (first p a n) (a + n) y)) ∙ h (first p a n) r.low in cc)
-    (λ z. omega (arith, r.high, ltb-false (first p a n) (a + n) z))
+-- ---- the searches of this crate's code, by what their test said
+module _ (t : List ℕ) (w : ℕ) (q : Question) (said : ℕ → Bool → Type 0) (tells : (j : ℕ) (b : Bool) → said j b → b ≡ answers q (raw t w j)) where
+  asked_said : (j : ℕ) (b : Bool) → j < reach t w → said j b → asked t w q j ≡ b
+  asked_said j b h s = place_asked t w j (answers q) (free_answers q) h ∙ sym (tells j b s)
 
--- ---- the loops of this crate's code: e is the world's reach, and the places below i do not answer
-pub record Searching (t : List ℕ) (w : ℕ) (q : Question) (e i : ℕ) : Type 0 where
-  pub most : i ≤ e
-  pub is_reach : e ≡ reach t w
-  pub rest : found t w q ≡ first (asked t w q) i (places - i)
+  -- past the reach no place is held
+  asked_past : (j : ℕ) → reach t w ≤ j → asked t w q j ≡ asks_free q
+  asked_past j h = rw (place_out t w j h) (blank_answers q)
 
-pub searching_starts : (t : List ℕ) (w : ℕ) (q : Question) (e : ℕ) → e ≡ reach t w → Searching t w q e 0
-unfolding found
-searching_starts t w q e f = record { most = omega arith; is_reach = f; rest = refl }
+  module _ (none : NonePass said 0 (reach t w)) where
+    found_none : asks_free q ≡ false → places ≡ found t w q
+    unfolding found
+    found_none o =
+        first_blind (asked t w q) 0 places
+        (λ j h l. either (ltb j (reach t w)) (λ y. let m = ltb-true j (reach t w) y in asked_said j false m (none j h m)) (λ z. asked_past j (ltb-false j (reach t w) z) ∙ o))
 
-module _ (t : List ℕ) (w : ℕ) (q : Question) (e i : ℕ) (s : Searching t w q e i) where
-  inside : e ≤ places
-  inside = rw s.is_reach (reach_most t w)
+    found_next : asks_free q ≡ true → reach t w ≡ found t w q
+    unfolding found
+    found_next o =
+        either (ltb (reach t w) places)
+        (λ y. first_by (asked t w q) 0 places (reach t w) (omega arith) (omega (arith, ltb-true (reach t w) places y)) (λ j h l. asked_said j false l (none j h l)) (asked_past (reach t w) (omega arith) ∙ o))
+        (λ z. let e : reach t w ≡ places = omega (arith, ltb-false (reach t w) places z, reach_most t w) in
+        e ∙ first_blind (asked t w q) 0 places (λ j h l. let m : j < reach t w = omega arith in asked_said j false m (none j h m)))
 
-  -- the mapping at place i, and what it answers
-  module _ (m : Mapping) (r : Bool) (read : m ≡ raw t w i) (said : r ≡ answers q m) (h : i < e) where
-    answered : (b : Bool) → r ≡ b → asked t w q i ≡ b
-    answered b f = place_asked t w i (answers q) (free_answers q) (rw s.is_reach at h) ∙ rw (← read, ← said) f
+  found_here : (i : ℕ) → i < reach t w → said i true → NonePass said 0 i → i ≡ found t w q
+  unfolding found
+  found_here i h s none =
+      first_by (asked t w q) 0 places i (omega arith) (omega (arith, reach_most t w)) (λ j k l. asked_said j false (omega arith) (none j k l)) (asked_said i true h s)
 
-    pub searching_goes : r ≡ false → Searching t w q e (i + 1)
-    searching_goes f =
-        let z : places - (i + 1) ≡ places - i - 1 = omega (arith, inside) in
-        record { most = omega arith; is_reach = s.is_reach; rest = rw z (first_goes _ _ _ _ s.rest (omega (arith, inside)) (answered false f)) }
+  pub found_held : (r : Option ℕ) → Lowest said (reach t w) r → asks_free q ≡ false → unwrap_or r places ≡ found t w q
+  found_held (Some i) l o = found_here i l.ends.0 l.ends.1.0 l.ends.1.1
+  found_held None l o = found_none l.ends o
 
-    pub searching_stops : r ≡ true → i ≡ found t w q
-    searching_stops f = first_stops _ _ _ _ s.rest (omega (arith, inside)) (answered true f)
+  pub found_free : (r : Option ℕ) → Lowest said (reach t w) r → asks_free q ≡ true → unwrap_or r (reach t w) ≡ found t w q
+  found_free (Some i) l o = found_here i l.ends.0 l.ends.1.0 l.ends.1.1
+  found_free None l o = found_next l.ends o
 
-  module _ (h : e ≤ i) where
-    -- past the reach no place is held
-    past : (j : ℕ) → i ≤ j → asked t w q j ≡ asks_free q
-    past j l = let z : reach t w ≤ j = omega (arith, s.is_reach) in rw (place_out t w j z) (blank_answers q)
-
-    pub searching_ends : asks_free q ≡ false → places ≡ found t w q
-    searching_ends o =
-        let z : i + (places - i) ≡ places = omega (arith, s.most, inside) in
-        sym (s.rest ∙ first_blind (asked t w q) i (places - i) (λ j l. past j l ∙ o) ∙ z)
-
-    pub searching_free : asks_free q ≡ true → e ≡ found t w q
-    searching_free o =
-        let z : i ≡ e = omega (arith, s.most) in
-        either (ltb e places) (λ y. rw (← z) (first_stops _ _ _ _ s.rest (omega (arith, ltb-true e places y)) (past i (omega arith) ∙ o)))
-        (λ n. rw (← z) (first_ends _ _ _ _ s.rest (omega (arith, ltb-false e places n))))
-
-pub ruleset searching = (searching_starts, searching_goes, searching_stops, searching_ends)
-
-pub ruleset searching_for_room = (searching_starts, searching_goes, searching_stops, searching_free)
-
--- ---- where the free places at the end begin
-pub record Lowering (t : List ℕ) (w n k : ℕ) : Type 0 where
-  pub most : k ≤ n
-  pub rest : behind (raw t w) n ≡ behind (raw t w) k
-
-pub lowering_starts : (t : List ℕ) (w n : ℕ) → Lowering t w n n
-lowering_starts t w n = record { most = omega arith; rest = refl }
-
-module _ (t : List ℕ) (w n k : ℕ) (s : Lowering t w n k) where
-  module _ (m : Mapping) (h : 0 < k) (read : m ≡ raw t w (k - 1)) where
-    pub lowering_goes : m.size ≡ 0 → Lowering t w n (k - 1)
-    lowering_goes f =
-        let z : suc (k - 1) ≡ k = omega arith in
-        record { most = omega (arith, s.most); rest = s.rest ∙ (rw z at (behind_last (raw t w) (k - 1) (rw (← read) (eq-eqb _ _ f)))) }
-
-    pub lowering_stops : (m.size ≡ 0 → ⊥) → k ≡ behind (raw t w) n
-    lowering_stops f =
-        let z : suc (k - 1) ≡ k = omega arith in
-        sym (s.rest ∙ (rw z at (behind_held (raw t w) (k - 1) (rw (← read) (ne_eqb _ _ f)))))
-
-  pub lowering_ends : k ≤ 0 → 0 ≡ behind (raw t w) n
-  unfolding upto
-  lowering_ends h = let z : k ≡ 0 = omega arith in sym (s.rest ∙ rw z)
-
-pub ruleset lowering = (lowering_starts, lowering_goes, lowering_stops, lowering_ends)
+-- the same from the last place down
+module _ (p : ℕ → Bool) (said : ℕ → Bool → Type 0) (n : ℕ) (tells : (j : ℕ) (b : Bool) → j < n → said j b → b ≡ p j) (r : ℕ) (l : ToLast said n r) where
+  pub to_last : r ≡ upto p n
+  to_last =
+      let m = upto_most p n in
+      either (ltb r (upto p n))
+      (λ y. let b = ltb-true r (upto p n) y in
+      absurd (yes_or_no (p (upto p n - 1)) (upto_passes p n (omega arith)) (sym (tells (upto p n - 1) false (omega arith) (l.behind (upto p n - 1) (omega arith) (omega arith))))))
+      (λ z. let b = ltb-false r (upto p n) z in
+      either (ltb (upto p n) r)
+      (λ y. let c = ltb-true (upto p n) r y in
+      absurd (yes_or_no (p (r - 1)) (sym (tells (r - 1) true (omega (arith, l.within)) (l.passes (omega arith)))) (upto_fails p n (r - 1) (omega arith) (omega (arith, l.within)))))
+      (λ y. let c = ltb-false (upto p n) r y in omega arith))
 
 -- ---- where a new mapping goes
 module _ (t : List ℕ) (w n : ℕ) where
@@ -183,46 +154,20 @@ spot_same t u w same =
 unfoldable pub clashed : List ℕ → ℕ → Mapping → Bool
 clashed t w n = any (λ (i : ℕ). clashing n (place t w i)) 0 places
 
--- the places below i do not clash
-pub record Clearing (t : List ℕ) (w : ℕ) (n : Mapping) (e i : ℕ) : Type 0 where
-  pub most : i ≤ e
-  pub is_reach : e ≡ reach t w
-  pub rest : clashed t w n ≡ any (λ (i : ℕ). clashing n (place t w i)) i (places - i)
+-- the search for such a place, by what its test said
+module _ (t : List ℕ) (w : ℕ) (n : Mapping) (said : ℕ → Bool → Type 0) (tells : (j : ℕ) (b : Bool) → said j b → b ≡ clashing n (raw t w j)) where
+  clash_said : (j : ℕ) (b : Bool) → j < reach t w → said j b → clashing n (place t w j) ≡ b
+  clash_said j b h s = place_asked t w j (clashing n) (free_clashes n) h ∙ sym (tells j b s)
 
-pub clearing_starts : (t : List ℕ) (w : ℕ) (n : Mapping) (e : ℕ) → e ≡ reach t w → Clearing t w n e 0
-unfolding clashed
-clearing_starts t w n e f = record { most = omega arith; is_reach = f; rest = refl }
+  pub clash_found : (r : Option ℕ) → Lowest said (reach t w) r → is_some r ≡ clashed t w n
+  unfolding clashed
+  clash_found (Some i) l = sym (any_by (λ (j : ℕ). clashing n (place t w j)) 0 places i (clash_said i true l.ends.0 l.ends.1.0) (omega arith) (omega (arith, l.ends.0, reach_most t w)))
+  clash_found None l =
+      sym (any_if_not (λ (j : ℕ). clashing n (place t w j)) 0 places
+      (λ j h m. either (ltb j (reach t w)) (λ y. let k = ltb-true j (reach t w) y in clash_said j false k (l.ends j h k))
+      (λ z. rw (place_out t w j (ltb-false j (reach t w) z)) (blank_clashes n))))
 
-module _ (t : List ℕ) (w : ℕ) (n : Mapping) (e i : ℕ) (s : Clearing t w n e i) where
-  within : e ≤ places
-  within = rw s.is_reach (reach_most t w)
-
-  module _ (m : Mapping) (r : Bool) (read : m ≡ raw t w i) (said : r ≡ clashing n m) (h : i < e) where
-    told : (b : Bool) → r ≡ b → clashing n (place t w i) ≡ b
-    told b f = place_asked t w i (clashing n) (free_clashes n) (rw s.is_reach at h) ∙ rw (← read, ← said) f
-
-    pub clearing_goes : r ≡ false → Clearing t w n e (i + 1)
-    clearing_goes f =
-        let z : places - (i + 1) ≡ places - i - 1 = omega (arith, within) in
-        record { most = omega arith; is_reach = s.is_reach; rest = rw z (any_goes _ _ _ _ s.rest (omega (arith, within)) (told false f)) }
-
-    pub clearing_stops : r ≡ true → true ≡ clashed t w n
-    clearing_stops f = any_stops _ _ _ _ s.rest (omega (arith, within)) (told true f)
-
-  pub clearing_ends : e ≤ i → false ≡ clashed t w n
-  clearing_ends h =
-      sym (s.rest ∙ any_if_not (λ (j : ℕ). clashing n (place t w j)) i (places - i)
-      (λ j l u. let z : reach t w ≤ j = omega (arith, s.is_reach) in rw (place_out t w j z) (blank_clashes n)))
-
-pub ruleset clearing = (clearing_starts, clearing_goes, clearing_stops, clearing_ends)
-
--- ---- the last that is held with exactly this start and size: e is the world's reach, and those from n on do not answer
-pub record Latest (t : List ℕ) (w v s e n : ℕ) : Type 0 where
-  pub some : s ≡ 0 → ⊥
-  pub most : n ≤ e
-  pub is_reach : e ≡ reach t w
-  pub rest : latest t w v s ≡ upto (asked t w (Exact v s)) n
-
+-- ---- the last that is held with exactly this start and size
 module _ (t : List ℕ) (w v s : ℕ) where
   -- no held mapping has the size 0
   empty_exact : s ≡ 0 → (m : Mapping) → answers (Exact v s) m ≡ false
@@ -233,57 +178,28 @@ module _ (t : List ℕ) (w v s : ℕ) where
   unfolding latest upto
   latest_empty e = sym (upto_past (asked t w (Exact v s)) 0 places (λ j l. empty_exact e (place t w j)))
 
-  module _ (e : ℕ) where
-    pub latest_starts : (s ≡ 0 → ⊥) → e ≡ reach t w → Latest t w v s e e
+  module _ (some : s ≡ 0 → ⊥) where
+    -- an exact mapping of such a size is held
+    exact_answers : (m : Mapping) → answers (Exact v s) m ≡ exact v s m
+    unfolding answers asks asks_free exact
+    exact_answers m =
+        either (is_free m)
+        (λ y. pick_yes (is_free m) _ _ y ∙ sym (right_false (eqb m.virt v) (eqb m.size s) (rw (eqb-true m.size 0 y) (ne_eqb 0 s (λ q. some (sym q))))))
+        (λ z. pick_no (is_free m) _ _ z)
+
+    exact_asked : (j : ℕ) → j < reach t w → asked t w (Exact v s) j ≡ exact v s (raw t w j)
+    exact_asked j h = place_asked t w j (answers (Exact v s)) (free_answers (Exact v s)) h ∙ exact_answers (raw t w j)
+
+    latest_reach : latest t w v s ≡ upto (asked t w (Exact v s)) (reach t w)
     unfolding latest asks_free
-    latest_starts d f =
-        let z : places - e + e ≡ places = omega (arith, f, reach_most t w) in
-        let p = asked t w (Exact v s) in
-        let b = upto_past p e (places - e) (λ j h. rw (place_out t w j (rw f at h)) (blank_answers (Exact v s))) in
-        record { some = d; most = omega arith; is_reach = f; rest = (rw z at b) }
+    latest_reach =
+        let e = reach t w in
+        let z : places - e + e ≡ places = omega (arith, reach_most t w) in
+        let b = upto_past (asked t w (Exact v s)) e (places - e) (λ j h. rw (place_out t w j h) (blank_answers (Exact v s))) in
+        rw z at b
 
-    module _ (n : ℕ) (l : Latest t w v s e n) where
-      pub latest_world : 0 < n → w < worlds
-      latest_world h = let k : 0 < e = omega (arith, l.most) in reach_world t w 0 (rw l.is_reach at k)
-
-      pub latest_place : 0 < n → n - 1 < places
-      latest_place h = omega (arith, l.most, l.is_reach, reach_most t w)
-
-      module _ (m : Mapping) (r : Bool) (h : 0 < n) (read : m ≡ raw t w (n - 1)) (said : r ≡ exact v s m) where
-        -- an exact mapping of such a size is held
-        exact_answers : answers (Exact v s) m ≡ exact v s m
-        unfolding answers asks asks_free exact
-        exact_answers =
-            either (is_free m)
-            (λ y. pick_yes (is_free m) _ _ y ∙ sym (right_false (eqb m.virt v) (eqb m.size s) (rw (eqb-true m.size 0 y) (ne_eqb 0 s (λ q. l.some (sym q))))))
-            (λ z. pick_no (is_free m) _ _ z)
-
-        answers_so : (b : Bool) → r ≡ b → asked t w (Exact v s) (n - 1) ≡ b
-        answers_so b f =
-            let k : n - 1 < e = omega (arith, l.most) in
-            place_asked t w (n - 1) (answers (Exact v s)) (free_answers (Exact v s)) (rw l.is_reach at k) ∙ rw (← read) (exact_answers ∙ sym said ∙ f)
-
-        pub latest_goes : r ≡ false → Latest t w v s e (n - 1)
-        latest_goes f =
-            let z : suc (n - 1) ≡ n = omega arith in
-            record {
-              some = l.some;
-              most = omega (arith, l.most);
-              is_reach = l.is_reach;
-              rest = l.rest ∙ (rw z at (upto_below (asked t w (Exact v s)) (n - 1) (answers_so false f)));
-            }
-
-        pub latest_stops : r ≡ true → n ≡ latest t w v s
-        latest_stops f =
-            let z : suc (n - 1) ≡ n = omega arith in sym (l.rest ∙ (rw z at (upto_here (asked t w (Exact v s)) (n - 1) (answers_so true f))))
-
-      pub latest_ends : n ≤ 0 → 0 ≡ latest t w v s
-      unfolding upto
-      latest_ends h = let z : n ≡ 0 = omega arith in sym (l.rest ∙ rw z)
-
-pub ruleset latests = (latest_empty, latest_starts, latest_goes, latest_stops, latest_ends)
-
-pub ruleset latest_places = (latest_world, latest_place)
+    pub latest_found : (said : ℕ → Bool → Type 0) → ((j : ℕ) (b : Bool) → said j b → b ≡ exact v s (raw t w j)) → (r : ℕ) → ToLast said (reach t w) r → r ≡ latest t w v s
+    latest_found said tells r l = to_last (asked t w (Exact v s)) said (reach t w) (λ j b h k. tells j b k ∙ sym (exact_asked j h)) r l ∙ sym latest_reach
 
 -- ---- what it is
 module _ (t : List ℕ) (w v s : ℕ) where

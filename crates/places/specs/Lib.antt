@@ -1,3 +1,4 @@
 pub mod Table
+pub mod Seek
 pub mod Found
 pub mod Decider

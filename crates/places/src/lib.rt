@@ -6,6 +6,7 @@ ghost use Rattle.std.specs.Prelude.{◌≡◌, ◌≤◌, ◌<◌};
 ghost use Rattle.ranges.specs.declared.Question.TheVariants.{Free, OnPages, OnRange, Touches};
 ghost use Rattle.places.specs.Table.{blank, unmapped, reach, raw, written, resized, behind, grown, used, place, stored, freed};
 ghost use Rattle.places.specs.Found.{found, latest, spot, clashed};
+ghost use Rattle.places.specs.Seek.{Lowest, ToLast};
 ghost use Rattle.places.specs.Decider.{decider};
 
 use ranges::{Mapping, Question};
@@ -31,6 +32,7 @@ pub fn blank() -> Mapping
 }
 
 // No world holds a mapping.
+#[tactic(auto, using(crate::specs::Table::layout_laws))]
 pub fn fresh() -> Lists
     ensures { result ≡ unmapped }
 {
@@ -38,20 +40,19 @@ pub fn fresh() -> Lists
 }
 
 // From which place on nothing of the world is held: sixteen at most, 0 where there is no such world.
+#[tactic(auto, using(crate::specs::Table::reach_laws))]
 fn reach_of(lists: &Lists, world: u64) -> u64
     ensures { result ≡ reach lists.now world }
 {
     if WORLDS <= world {
         return 0;
     }
-    let n = lists[(REACHES + world) as usize];
-    if MOST_MAPPINGS < n {
-        return MOST_MAPPINGS;
-    }
-    n
+    lists[(REACHES + world) as usize].min(MOST_MAPPINGS)
 }
 
-// The numbers of a place as they stand.
+// The numbers of a place as they stand. That there are such a world and place is known where a reach is, so that a struct which holds
+// it would be made at each call and be no plainer.
+#[tactic(auto, using(crate::specs::Table::layout_laws))]
 fn raw_at(lists: &Lists, world: u64, i: u64) -> Mapping
     requires fact_1 { world < 4 }
     requires fact_2 { i < 16 }
@@ -67,6 +68,7 @@ fn raw_at(lists: &Lists, world: u64, i: u64) -> Mapping
 }
 
 // Other numbers in their stead.
+#[tactic(auto, using(crate::specs::Table::layout_laws))]
 fn write_at(lists: &mut Lists, world: u64, i: u64, m: Mapping)
     requires fact_1 { world < 4 }
     requires fact_2 { i < 16 }
@@ -80,6 +82,7 @@ fn write_at(lists: &mut Lists, world: u64, i: u64, m: Mapping)
 }
 
 // Another reach of the world.
+#[tactic(auto, using(crate::specs::Table::layout_laws))]
 fn resize(lists: &mut Lists, world: u64, n: u64)
     requires { world < 4 }
     ensures { lists.new ≡ resized lists.old world n }
@@ -93,18 +96,11 @@ fn last_held(lists: &Lists, world: u64, n: u64) -> u64
     requires fact_2 { n ≤ 16 }
     ensures { result ≡ behind (raw lists.now world) n }
 {
-    let mut k = n;
-    while 0 < k {
-        let m = raw_at(lists, world, k - 1);
-        if m.size != 0 {
-            return k;
-        }
-        k -= 1;
-    }
-    0
+    count_to_last(lists, world, n, |m| m.size != 0)
 }
 
 // The mapping at a place of the world, blank where nothing is held.
+#[tactic(auto, using(crate::specs::Table::place_laws))]
 pub fn place_of(lists: &Lists, world: u64, i: u64) -> Mapping
     ensures { result ≡ place lists.now world i }
 {
@@ -119,6 +115,7 @@ pub fn place_of(lists: &Lists, world: u64, i: u64) -> Mapping
 }
 
 // The reach with a place held too that is within it or the next.
+#[tactic(auto, using(crate::specs::Table::growths))]
 fn grown(n: u64, i: u64) -> u64
     requires { i < 16 }
     ensures { result ≡ grown n i }
@@ -130,6 +127,7 @@ fn grown(n: u64, i: u64) -> u64
 }
 
 // Puts the mapping at a place of the world that is within its reach, or the next.
+#[tactic(auto, using(crate::specs::Table::store_laws))]
 pub fn store(lists: &mut Lists, world: u64, i: u64, m: Mapping)
     ensures { lists.new ≡ stored lists.old world i m }
 {
@@ -148,6 +146,7 @@ pub fn store(lists: &mut Lists, world: u64, i: u64, m: Mapping)
 }
 
 // Makes a place of the world free. Its reach then ends behind the last place that is held.
+#[tactic(auto, using(crate::specs::Table::reach_bounds, crate::specs::Table::store_laws))]
 pub fn free(lists: &mut Lists, world: u64, i: u64)
     ensures { lists.new ≡ freed lists.old world i }
 {
@@ -160,25 +159,46 @@ pub fn free(lists: &mut Lists, world: u64, i: u64)
     resize(lists, world, left);
 }
 
-// The searches: the lowest place of the world that answers, or 16. Each question has a loop of its own, in which it is known: a loop
-// that is handed its question asks at each place which one it is.
+// The searches. For none they answer 16, one past the last place, as `found` does. The test is a type parameter, so that each is
+// compiled to a loop of its own, in which its test is known: a loop that is handed a question asks at each place which one it is.
+
+// The lowest place within the reach whose mapping passes.
+fn lowest<F: Fn(Mapping) -> bool>(lists: &Lists, world: u64, passes: F) -> Option<u64>
+    requires { F.IsAlwaysCallable passes }
+    ensures { Lowest (λ i. F.post passes (raw lists.now world i)) (reach lists.now world) result }
+{
+    for i in 0..reach_of(lists, world) {
+        if passes(raw_at(lists, world, i)) {
+            return Some(i);
+        }
+    }
+    None
+}
+
+// How many of the first n places there are up to the last whose mapping passes: 0 where none does.
+fn count_to_last<F: Fn(Mapping) -> bool>(lists: &Lists, world: u64, n: u64, passes: F) -> u64
+    requires fact_1 { 0 < n → world < 4 }
+    requires fact_2 { n ≤ 16 }
+    requires fact_3 { F.IsAlwaysCallable passes }
+    ensures { ToLast (λ i. F.post passes (raw lists.now world i)) n result }
+{
+    for i in (0..n).rev() {
+        if passes(raw_at(lists, world, i)) {
+            return i + 1;
+        }
+    }
+    0
+}
 
 // The lowest place that is free.
 fn lowest_free(lists: &Lists, world: u64) -> u64
     ensures { result ≡ found lists.now world Free }
 {
-    let end = reach_of(lists, world);
-    let mut i = 0;
-    while i < end {
-        if raw_at(lists, world, i).answers(Question::Free) {
-            return i;
-        }
-        i += 1;
-    }
-    end
+    lowest(lists, world, |m| m.answers(Question::Free)).unwrap_or(reach_of(lists, world))
 }
 
 // How far the world's mappings go: behind the last that is held.
+#[tactic(auto, using(crate::specs::Table::reach_bounds, crate::specs::Table::uses))]
 fn used_of(lists: &Lists, world: u64) -> u64
     ensures { result ≡ used lists.now world }
 {
@@ -190,6 +210,7 @@ fn used_of(lists: &Lists, world: u64) -> u64
 }
 
 // Where a new mapping goes: behind the last that is held, or to the lowest free place where that is the last; 16 where none is free.
+#[tactic(auto, using(crate::specs::Found::spots))]
 pub fn find_free(lists: &Lists, world: u64) -> u64
     ensures { result ≡ spot lists.now world }
 {
@@ -208,85 +229,63 @@ pub fn latest_exact(lists: &Lists, world: u64, virt: u64, size: u64) -> u64
     if size == 0 {
         return 0;
     }
-    let mut n = reach_of(lists, world);
-    while 0 < n {
-        if raw_at(lists, world, n - 1).is_exact(virt, size) {
-            return n;
-        }
-        n -= 1;
-    }
-    0
+    count_to_last(lists, world, reach_of(lists, world), |m| {
+        m.is_exact(virt, size)
+    })
 }
 
 // The lowest place that is held, with a physical range that meets this one.
 pub fn find_range(lists: &Lists, world: u64, start: u64, size: u64) -> u64
     ensures { result ≡ found lists.now world (OnRange start size) }
 {
-    let end = reach_of(lists, world);
-    let mut i = 0;
-    while i < end {
-        if raw_at(lists, world, i).answers(Question::OnRange { start, size }) {
-            return i;
-        }
-        i += 1;
-    }
-    MOST_MAPPINGS
+    lowest(
+        lists,
+        world,
+        |m| m.answers(Question::OnRange { start, size }),
+    )
+    .unwrap_or(MOST_MAPPINGS)
 }
 
 // The lowest place that is held, with a physical range that meets this run of pages.
 pub fn find_on_pages(lists: &Lists, world: u64, start: u64, count: u64) -> u64
     ensures { result ≡ found lists.now world (OnPages start count) }
 {
-    let end = reach_of(lists, world);
-    let mut i = 0;
-    while i < end {
-        if raw_at(lists, world, i).answers(Question::OnPages { start, count }) {
-            return i;
-        }
-        i += 1;
-    }
-    MOST_MAPPINGS
+    lowest(
+        lists,
+        world,
+        |m| m.answers(Question::OnPages { start, count }),
+    )
+    .unwrap_or(MOST_MAPPINGS)
 }
 
 // The lowest place that is held, with a virtual range that meets this one.
 pub fn find_touching(lists: &Lists, world: u64, start: u64, size: u64) -> u64
     ensures { result ≡ found lists.now world (Touches start size) }
 {
-    let end = reach_of(lists, world);
-    let mut i = 0;
-    while i < end {
-        if raw_at(lists, world, i).answers(Question::Touches { start, size }) {
-            return i;
-        }
-        i += 1;
-    }
-    MOST_MAPPINGS
+    lowest(
+        lists,
+        world,
+        |m| m.answers(Question::Touches { start, size }),
+    )
+    .unwrap_or(MOST_MAPPINGS)
 }
 
 // Whether a place is held that this mapping may not stand beside.
 pub fn any_clash(lists: &Lists, world: u64, m: Mapping) -> bool
     ensures { result ≡ clashed lists.now world m }
 {
-    let end = reach_of(lists, world);
-    let mut i = 0;
-    while i < end {
-        if raw_at(lists, world, i).is_clashing(m) {
-            return true;
-        }
-        i += 1;
-    }
-    false
+    lowest(lists, world, |held| held.is_clashing(m)).is_some()
 }
 
 // The smallest mapping of the world that holds the virtual address, that of the lowest place of two of one size; blank where none
 // holds it. The places are seen from the last to the first, as the definition goes through them.
+#[tactic(auto, using(crate::specs::Decider::seen_none, crate::specs::Decider::seen_all))]
 pub fn decider(lists: &Lists, world: u64, address: u64) -> Mapping
     ensures { result ≡ decider lists.now world address }
 {
+    let end = reach_of(lists, world);
     let mut best = blank();
-    let mut i = reach_of(lists, world);
-    while 0 < i {
-        i -= 1;
+    for i in (0..end).rev() {
         best = raw_at(lists, world, i).preferred(best, address);
     }
     best

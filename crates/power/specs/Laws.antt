@@ -1,18 +1,16 @@
 -- How the code finds the page where a core may start, and its owner.
-use Rattle.std.specs.Prelude.{◌≡◌, Bool, true, false, ◌&&◌, List, ℕ, eqb}
+use Rattle.std.specs.Prelude.{◌≡◌, Bool, true, false, ◌&&◌, List, ℕ, eqb, None, Option, Some}
 use Rattle.rules.specs.Tests.{numbers}
 use Rattle.pages.specs.Owners.{owner}
-use Rattle.pages.specs.declared.Place.{Place}
-use Rattle.pages.specs.declared.Place.TheVariants.{Page, Outside}
 use Rattle.judgements.specs.Judge.{owned_at}
 
 -- ---- the owner of the page at a place
-module _ (o : List ℕ) (k l : Place) (world : ℕ) (same : k ≡ l) where
-  pub owned_page : (page : ℕ) (r : Bool) → k ≡ Page page → r ≡ eqb (owner o page) world → r ≡ owned_at o l world
+module _ (o : List ℕ) (k l : Option ℕ) (world : ℕ) (same : k ≡ l) where
+  pub owned_page : (page : ℕ) (r : Bool) → k ≡ Some page → r ≡ eqb (owner o page) world → r ≡ owned_at o l world
   unfolding owned_at
   owned_page page r e h = rw (← same, e) h
 
-  pub owned_outside : (r : Bool) → k ≡ Outside → r ≡ false → r ≡ owned_at o l world
+  pub owned_outside : (r : Bool) → k ≡ None → r ≡ false → r ≡ owned_at o l world
   unfolding owned_at
   owned_outside r e h = rw (← same, e) h
 

@@ -9,7 +9,7 @@ ghost use Rattle.judgements.specs.Judge.{granted, affirmed, asked, good_start, s
 use architecture::{affirm, asked_key};
 use cores::Powers;
 use judgements::{Answer, Args, Caller, Deed, Judged, grant, names, refuse};
-use pages::{Owners, Place, Window};
+use pages::{Owners, Window};
 use rules::Reason;
 
 // Whether a core may start there: a multiple of 4 in a page of Normal's.
@@ -19,7 +19,7 @@ fn good_start(w: Window, owners: &Owners, address: u64) -> bool
     if address % 4 != 0 {
         return false;
     }
-    let Place::Page(page) = w.page_of(address) else {
+    let Some(page) = w.page_of(address) else {
         return false;
     };
     pages::owner_of(owners, page) == rules::NORMAL

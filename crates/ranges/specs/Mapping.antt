@@ -1,5 +1,5 @@
 -- One mapping: what may be asked of it, and what may be wrong with it by itself.
-use Rattle.std.specs.Prelude.{◌≡◌, Bool, true, false, not, ◌&&◌, ◌||◌, ℕ, ◌+◌, ◌*◌, ◌/◌, ◌%◌, ◌≤◌, ◌<◌, ltb, leb, eqb}
+use Rattle.std.specs.Prelude.{◌≡◌, Bool, true, false, not, ◌&&◌, ◌||◌, ℕ, ◌+◌, ◌*◌, ◌/◌, ◌%◌, ◌≤◌, ◌<◌, ltb, leb, eqb, None, Option, Some}
 use Rattle.std.proofs.Math.Path.{refl}
 use Rattle.std.proofs.Common.{sym, ◌∙◌, eq-eqb, ne_eqb, le-leb}
 use Rattle.std.proofs.lemmas.Bool.{lt-leb}
@@ -7,8 +7,6 @@ use Rattle.rules.specs.Choice.{pick, picked, passed}
 use Rattle.rules.specs.Sizes.{page_size, virtual_limit, last_attributes}
 use Rattle.pages.specs.Window.{run_of}
 use Rattle.pages.specs.declared.Window.{Window}
-use Rattle.pages.specs.declared.Place.{Place}
-use Rattle.pages.specs.declared.Place.TheVariants.{Page, Outside}
 use Rattle.ranges.specs.Ranges.{within, meet, inside, level}
 use Rattle.ranges.specs.declared.Mapping.{Mapping}
 
@@ -65,24 +63,24 @@ unfoldable pub malformed : Mapping → Bool
 malformed m = unaligned m.virt || (unaligned m.phys || (unaligned m.size || ltb last_attributes m.attr))
 
 -- where its physical pages lie
-abbrev pub pages_of : Window → Mapping → Place
+abbrev pub pages_of : Window → Mapping → Option ℕ
 pages_of w m = run_of w m.phys (m.size / page_size)
 
-unfoldable pub is_outside : Place → Bool
-is_outside (Page first) = false
-is_outside Outside = true
+unfoldable pub is_outside : Option ℕ → Bool
+is_outside (Some first) = false
+is_outside None = true
 
 -- it reaches past the window, or past the last virtual address
 unfoldable pub beyond : Window → Mapping → Bool
 beyond w m = is_outside (pages_of w m) || ltb virtual_limit (m.virt + m.size)
 
 -- ---- how the code's tests meet these: by the place of the mapping's pages
-module _ (k : Place) (w : Window) (m : Mapping) (said : k ≡ pages_of w m) where
-  pub beyond_window : k ≡ Outside → true ≡ beyond w m
+module _ (k : Option ℕ) (w : Window) (m : Mapping) (said : k ≡ pages_of w m) where
+  pub beyond_window : k ≡ None → true ≡ beyond w m
   unfolding beyond is_outside
   beyond_window e = rw (← said, e)
 
-  pub beyond_end : (first : ℕ) (r : Bool) → k ≡ Page first → r ≡ ltb virtual_limit (m.virt + m.size) → r ≡ beyond w m
+  pub beyond_end : (first : ℕ) (r : Bool) → k ≡ Some first → r ≡ ltb virtual_limit (m.virt + m.size) → r ≡ beyond w m
   unfolding beyond is_outside
   beyond_end first r e h = rw (← said, e) h
 

@@ -1,5 +1,5 @@
 -- Nine saved numbers for each core and world, in one table. Only this file knows where in the table a number stands.
-use Rattle.std.specs.Prelude.{◌≡◌, false, ◌&&◌, List, [], ◌∷◌, ltb, eqb, length, get_or, set, take, drop, replicate}
+use Rattle.std.specs.Prelude.{◌≡◌, false, ◌&&◌, List, [], ◌∷◌, ltb, eqb, length, get_or, set, take, drop, replicate, None, Option, Some}
 use Rattle.std.proofs.Math.Path.{refl, sym}
 use Rattle.std.proofs.Common.{◌∙◌, ⊎_elim, eq-or-lt_of_le, length-set, drop_of_length-le, get_or-set_same, get_or-set_other, ext_get_or, lt-ltb, le-ltb, ltb-true, ltb-false, eqb-true, eq-eqb}
 use Prim.Native.Nat.{ℕ, zero, suc, ◌+◌, ◌-◌, ◌*◌, ◌≤◌, ◌<◌}
@@ -11,8 +11,6 @@ use Rattle.std.proofs.lemmas.List.Edits.{sets}
 use Rattle.std.proofs.Math.Seq.{length-sets, get_or-take, get_or-drop, drop-cons}
 use Rattle.rules.specs.Sizes.{worlds, most_cores}
 use Rattle.rules.specs.Choice.{pick, picked, passed, either, both_true, left_true, right_true, yes_or_no}
-use Rattle.registers.specs.declared.Start.{Start}
-use Rattle.registers.specs.declared.Start.TheVariants.{At, Nowhere}
 use Rattle.registers.specs.declared.Shown.{Shown}
 
 -- ---- the table: eight cores, four worlds of each, nine numbers of each
@@ -34,13 +32,13 @@ abbrev place : ℕ → ℕ → ℕ
 place c w = (c * worlds + w) * each
 
 -- where the numbers of a core and world begin
-pub start_of : ℕ → ℕ → Start
-start_of c w = pick (ltb c most_cores) (pick (ltb w worlds) (At (place c w)) Nowhere) Nowhere
+pub start_of : ℕ → ℕ → Option ℕ
+start_of c w = pick (ltb c most_cores) (pick (ltb w worlds) (Some (place c w)) None) None
 
 -- the part of the table that holds them
-part_at : List ℕ → Start → List ℕ
-part_at t (At a) = take each (drop a t)
-part_at t Nowhere = []
+part_at : List ℕ → Option ℕ → List ℕ
+part_at t (Some a) = take each (drop a t)
+part_at t None = []
 
 -- what a reader finds in such a part: number i, and 0 past its end
 pub number_in : List ℕ → ℕ → ℕ
@@ -50,9 +48,9 @@ unfoldable pub shown_in : List ℕ → Shown
 shown_in part = record { x0 = number_in part 0; x1 = number_in part 1; x2 = number_in part 2; x3 = number_in part 3 }
 
 -- the numbers xs in place of as many from there on, nine at most
-saving_at : List ℕ → Start → List ℕ → List ℕ
-saving_at t (At a) xs = sets t a (take each xs)
-saving_at t Nowhere xs = t
+saving_at : List ℕ → Option ℕ → List ℕ → List ℕ
+saving_at t (Some a) xs = sets t a (take each xs)
+saving_at t None xs = t
 
 pub count_of : ℕ → ℕ
 count_of n = pick (ltb n each) n each
@@ -82,22 +80,22 @@ unfolding zeros
 zeros_made = refl
 
 module _ (c w : ℕ) where
-  pub start_here : c < most_cores → w < worlds → At (place c w) ≡ start_of c w
+  pub start_here : c < most_cores → w < worlds → Some (place c w) ≡ start_of c w
   unfolding start_of
   start_here h k = picked _ _ _ _ (lt-ltb c most_cores h) (picked _ _ _ _ (lt-ltb w worlds k) refl)
 
-  pub start_no_core : most_cores ≤ c → Nowhere ≡ start_of c w
+  pub start_no_core : most_cores ≤ c → None ≡ start_of c w
   unfolding start_of
   start_no_core h = passed _ _ _ _ (le-ltb c most_cores h) refl
 
-  pub start_no_world : c < most_cores → worlds ≤ w → Nowhere ≡ start_of c w
+  pub start_no_world : c < most_cores → worlds ≤ w → None ≡ start_of c w
   unfolding start_of
   start_no_world h k = picked _ _ _ _ (lt-ltb c most_cores h) (passed _ _ _ _ (le-ltb w worlds k) refl)
 
 pub ruleset starts = (start_here, start_no_core, start_no_world)
 
 -- a core and world have a place, or there is none
-placed : {P : Type 0} (c w : ℕ) → (c < most_cores → w < worlds → start_of c w ≡ At (place c w) → P) → (start_of c w ≡ Nowhere → P) → P
+placed : {P : Type 0} (c w : ℕ) → (c < most_cores → w < worlds → start_of c w ≡ Some (place c w) → P) → (start_of c w ≡ None → P) → P
 placed c w f g =
     either (ltb c most_cores)
     (λ e. let h = ltb-true c most_cores e in
@@ -105,7 +103,7 @@ placed c w f g =
     (λ e. g (sym (start_no_core c w (ltb-false c most_cores e))))
 
 -- nine numbers stand from there on
-pub start_fits : (c w a : ℕ) (s : Start) → s ≡ start_of c w → s ≡ At a → a + each ≤ numbers
+pub start_fits : (c w a : ℕ) (s : Option ℕ) → s ≡ start_of c w → s ≡ Some a → a + each ≤ numbers
 start_fits c w a s f g =
     placed c w
     (λ h k e. let z : a ≡ place c w = cc in omega arith)
@@ -122,8 +120,8 @@ module _ (part : List ℕ) (i : ℕ) where
 
 pub ruleset numbers_in = (number_there, number_past)
 
-module _ (t : List ℕ) (c w : ℕ) (s : Start) (f : s ≡ start_of c w) where
-  module _ (a : ℕ) (g : s ≡ At a) where
+module _ (t : List ℕ) (c w : ℕ) (s : Option ℕ) (f : s ≡ start_of c w) where
+  module _ (a : ℕ) (g : s ≡ Some a) where
     part_there : take (a + each - a) (drop a t) ≡ part_at t (start_of c w)
     unfolding part_at
     part_there = let n : a + each - a ≡ each = omega arith in rw (← f, g, n)
@@ -140,7 +138,7 @@ module _ (t : List ℕ) (c w : ℕ) (s : Start) (f : s ≡ start_of c w) where
     unfolding saving saving_at left
     left_all xs = let z : a + 0 ≡ a = omega arith in rw (← f, g, z)
 
-  module _ (g : s ≡ Nowhere) where
+  module _ (g : s ≡ None) where
     pub saved_nowhere : (i : ℕ) → 0 ≡ saved t c w i
     unfolding saved part_at number_in
     saved_nowhere i = rw (← f, g)
@@ -180,7 +178,7 @@ pub record Writing (t₀ : List ℕ) (c w : ℕ) (xs : List ℕ) (a n : ℕ) (t 
   pub rest : saving t₀ c w xs ≡ left t a xs i
 
 module _ (t₀ : List ℕ) (c w : ℕ) (xs : List ℕ) (a n : ℕ) where
-  pub writing_starts : (s : Start) → s ≡ start_of c w → s ≡ At a → n ≡ count_of (length xs) → Writing t₀ c w xs a n t₀ 0
+  pub writing_starts : (s : Option ℕ) → s ≡ start_of c w → s ≡ Some a → n ≡ count_of (length xs) → Writing t₀ c w xs a n t₀ 0
   writing_starts s f g e =
       let m : n ≡ length (take each xs) = e ∙ count_take xs in
       let l = length-take each xs in
@@ -248,11 +246,11 @@ sets_in (v ∷ vs) t a (suc j) h l =
 
 -- a core or a world that there is not has no numbers, and none is written there
 module _ (t : List ℕ) (c w : ℕ) where
-  saved_lost : start_of c w ≡ Nowhere → (i : ℕ) → saved t c w i ≡ 0
-  saved_lost e i = sym (saved_nowhere t c w Nowhere (sym e) refl i)
+  saved_lost : start_of c w ≡ None → (i : ℕ) → saved t c w i ≡ 0
+  saved_lost e i = sym (saved_nowhere t c w None (sym e) refl i)
 
-  saving_lost : start_of c w ≡ Nowhere → (xs : List ℕ) → saving t c w xs ≡ t
-  saving_lost e xs = sym (saving_nowhere t c w Nowhere (sym e) refl xs)
+  saving_lost : start_of c w ≡ None → (xs : List ℕ) → saving t c w xs ≡ t
+  saving_lost e xs = sym (saving_nowhere t c w None (sym e) refl xs)
 
   pub saved_no_number : (i : ℕ) → each ≤ i → saved t c w i ≡ 0
   unfolding saved part_at number_in

@@ -22,34 +22,30 @@ pub struct Shown {
     pub x3: u64,
 }
 
-// Where the nine numbers of one core and world begin.
-#[derive(Clone, Copy)]
-enum Start {
-    At(usize),
-    Nowhere,
-}
-
 // Nothing has been saved yet.
+#[tactic(auto, using(crate::specs::Registers::zeros_made))]
 pub fn fresh() -> Saved
     ensures { result ≡ zeros }
 {
     [0; MOST_CORES as usize * WORLDS as usize * EACH]
 }
 
-fn start_of(core: u64, world: u64) -> Start
+#[tactic(auto, using(crate::specs::Registers::starts))]
+fn start_of(core: u64, world: u64) -> Option<usize>
     ensures { result ≡ start_of core world }
 {
     if MOST_CORES <= core {
-        return Start::Nowhere;
+        return None;
     }
     if WORLDS <= world {
-        return Start::Nowhere;
+        return None;
     }
     let share = (core * WORLDS + world) as usize;
-    Start::At(share * EACH)
+    Some(share * EACH)
 }
 
 // A reader of the numbers of one core and world: number i of the part, 0 past its end.
+#[tactic(auto, using(crate::specs::Registers::numbers_in))]
 fn number_in(part: &[u64], i: u64) -> u64
     ensures { result ≡ number_in part.now i }
 {
@@ -61,6 +57,7 @@ fn number_in(part: &[u64], i: u64) -> u64
 }
 
 // A reader of the numbers of one core and world: x0 to x3 of the part.
+#[tactic(auto, unfolding(crate::specs::Registers::shown_in))]
 fn shown_in(part: &[u64]) -> Shown
     ensures { result ≡ shown_in part.now }
 {
@@ -76,7 +73,7 @@ fn shown_in(part: &[u64]) -> Shown
 pub fn show(t: &Saved, core: u64, world: u64) -> Shown
     ensures { result ≡ shown_of t.now core world }
 {
-    let Start::At(a) = start_of(core, world) else {
+    let Some(a) = start_of(core, world) else {
         return Shown {
             x0: 0,
             x1: 0,
@@ -93,7 +90,7 @@ pub fn show(t: &Saved, core: u64, world: u64) -> Shown
 pub fn number(t: &Saved, core: u64, world: u64, i: u64) -> u64
     ensures { result ≡ saved t.now core world i }
 {
-    let Start::At(a) = start_of(core, world) else {
+    let Some(a) = start_of(core, world) else {
         return 0;
     };
     let s: &[u64] = t;
@@ -102,27 +99,24 @@ pub fn number(t: &Saved, core: u64, world: u64, i: u64) -> u64
 }
 
 // How many of n numbers are written: nine at most.
+#[tactic(auto, using(crate::specs::Registers::counts))]
 fn count_of(n: usize) -> usize
     ensures { result ≡ count_of n }
 {
-    if n < EACH {
-        return n;
-    }
-    EACH
+    n.min(EACH)
 }
 
 // The numbers xs take the place of as many from x0 on; those past the ninth are ignored.
+#[tactic(auto, using(crate::specs::Registers::saving_nowhere, crate::specs::Registers::writing_ends))]
 pub fn save(t: &mut Saved, core: u64, world: u64, xs: &[u64])
     ensures { t.new ≡ saving t.old core world xs.now }
 {
-    let Start::At(a) = start_of(core, world) else {
+    let Some(a) = start_of(core, world) else {
         return;
     };
-    let n = count_of(xs.len());
-    let mut i = 0;
-    while i < n {
+    // No copy_from_slice: the compiler calls memcpy for it, and whoever links the archive is asked for memset alone.
+    for i in 0..count_of(xs.len()) {
         t[a + i] = xs[i];
-        i += 1;
     }
 }
 
@@ -135,6 +129,7 @@ fn see_eight(x: &[u64; 8]) -> u64
 }
 
 // The eight numbers of a call. All are read before one is written, so that they are copied in pairs.
+#[tactic(auto, using(crate::specs::Registers::saving_eight))]
 pub fn save_eight(t: &mut Saved, core: u64, world: u64, x: &[u64; 8])
     ensures { t.new ≡ saving t.old core world x.now }
 {
@@ -146,6 +141,8 @@ pub fn save_eight(t: &mut Saved, core: u64, world: u64, x: &[u64; 8])
         &[x[0], x[1], x[2], x[3], x[4], x[5], x[6], x[7]],
     );
 }
+
+// Each of the following names what it saves, and `save` already takes any number of them: a const parameter would add nothing.
 
 // x0 alone: the answer of a call with one result.
 pub fn save_one(t: &mut Saved, core: u64, world: u64, v: u64)

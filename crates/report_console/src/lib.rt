@@ -4,16 +4,10 @@
 ghost use Rattle.std.specs.Prelude.{◌≡◌, true};
 ghost use Rattle.tools.specs.Laid.{put};
 ghost use Rattle.report_text.specs.Report.{report_text};
-ghost use Rattle.frames.specs.Frames.{Machine, on_machine};
 ghost use Rattle.reporting.specs.Reading.{Ran, Noted};
 
-use cores::{Powers, Turns};
-use ledger::Ledger;
-use mapping::Lists;
-use pages::{Named, Owners};
-use registers::Saved;
+use frames::Machine;
 use report_text::Output;
-use setup::Setup;
 use tallies::Tally;
 
 // Reads until the input ends: whether it did. The count only has the loop end: no input needs so many reads.
@@ -21,29 +15,18 @@ fn serve(
     rt: &impl Input,
     buf: &mut reporting::Input,
     tally: &mut Tally,
-    setup: &mut Setup,
-    named: &mut Named,
-    book: &mut Ledger,
-    owners: &mut Owners,
-    saved: &mut Saved,
-    powers: &mut Powers,
-    turns: &mut Turns,
-    lists: &mut Lists,
+    machine: &mut Machine,
 ) -> bool
-    ensures { result ≡ true → on_machine setup named book owners saved powers turns lists (λ (m m' : Machine). Ran (m, tally.old) (m', tally.new)) }
+    ensures { result ≡ true → Ran (machine.old, tally.old) (machine.new, tally.new) }
 {
     let mut kept: usize = 0;
-    let mut left = u64::MAX;
-    while left > 0 {
+    for _ in 0..u64::MAX {
         let n = channels::fill(rt, buf, kept);
-        let waits = reporting::take_read(
-            buf, kept, n, tally, setup, named, book, owners, saved, powers, turns, lists,
-        );
+        let waits = reporting::take_read(buf, kept, n, tally, machine);
         if n == kept {
             return true;
         }
         kept = waits;
-        left -= 1;
     }
     false
 }
@@ -53,27 +36,8 @@ pub fn count(rt: &impl Input, tally: &mut Tally) -> bool
     ensures { result ≡ true → Noted tally.old tally.new }
 {
     let mut buf = io::large_buffer();
-    let mut setup = setup::fresh();
-    let mut named = pages::fresh_named();
-    let mut book = ledger::fresh();
-    let mut owners = pages::fresh_owners();
-    let mut saved = registers::fresh();
-    let mut powers = cores::fresh_powers();
-    let mut turns = cores::fresh_turns();
-    let mut lists = mapping::fresh();
-    serve(
-        rt,
-        &mut buf,
-        tally,
-        &mut setup,
-        &mut named,
-        &mut book,
-        &mut owners,
-        &mut saved,
-        &mut powers,
-        &mut turns,
-        &mut lists,
-    )
+    let mut machine = Machine::fresh();
+    serve(rt, &mut buf, tally, &mut machine)
 }
 
 // Lays the report of a table over the space for it, and writes it: whether it could be written.

@@ -36,10 +36,7 @@ fn put_pair(out: &mut [u8], at: usize, x: u64, n: u64) -> usize
 fn put_line(out: &mut [u8], at: usize, world: u64, x: u64, n: u64) -> usize
     ensures { (result, out.new) ≡ put out.old at (line_text world x n) }
 {
-    if out.len() < LINE {
-        return at;
-    }
-    if out.len() - LINE < at {
+    if out.len() < LINE || out.len() - LINE < at {
         return at;
     }
     let a = put_head(out, at, world);
@@ -74,10 +71,8 @@ fn put_lines(out: &mut [u8], start: usize, t: &Tally) -> usize
     ensures { (result, out.new) ≡ put out.old start (lines_from t.now 0 316) }
 {
     let mut at = start;
-    let mut i: u64 = 0;
-    while i < TOTAL {
+    for i in 0..TOTAL {
         at = put_place(out, at, t, i);
-        i += 1;
     }
     at
 }
@@ -86,10 +81,9 @@ fn put_lines(out: &mut [u8], start: usize, t: &Tally) -> usize
 pub fn put_report(out: &mut Output, t: &Tally) -> usize
     ensures { (result, out.new) ≡ put out.old 0 (report_text t.now) }
 {
-    let space: &mut [u8] = out;
     if tallies::is_over(t) {
-        let a = put_notice(space);
-        return put_lines(space, a, t);
+        let start = put_notice(out);
+        return put_lines(out, start, t);
     }
-    put_lines(space, 0, t)
+    put_lines(out, 0, t)
 }

@@ -1,8 +1,9 @@
 -- What is counted of a frame, beside what the frame does: nothing where it is answered with a status, and once where it is an accepted call.
-use Rattle.std.specs.Prelude.{◌≡◌, true, List, [], ◌∷◌}
+use Rattle.std.specs.Prelude.{◌≡◌, true, List, [], ◌∷◌, Result}
 use Prim.Native.Nat.{ℕ, ◌<◌}
 use Rattle.std.proofs.Common.{leb-false}
 use Rattle.std.proofs.lemmas.Bool.{not-false}
+use Rattle.calls.specs.declared.Made.{Made}
 use Rattle.cores.specs.Power.{is_on}
 use Rattle.cores.specs.Cores.{power}
 use Rattle.calls.specs.Step.{State, called}
@@ -12,7 +13,6 @@ use Rattle.parsing.specs.declared.Frame.TheVariants as Frame
 use Rattle.setup.specs.Table.{ready, cores}
 use Rattle.setup.specs.Statuses.{ruled_by}
 use Rattle.calling.specs.Calling.{trying, replied, performed, calling}
-use Rattle.calling.specs.declared.Tried.{Tried}
 use Rattle.showing.specs.declared.Reply.{Reply}
 use Rattle.showing.specs.declared.Reply.TheVariants.{Told}
 use Rattle.frames.specs.Frames.{Machine, state_of, with_state, framed}
@@ -28,7 +28,7 @@ module _ (m : Machine) (xs : List ℕ) (P : Frame → Machine × Reply → List 
   counted_by (Frame.Entry first last kind number) = none _ _ _
   counted_by (Frame.Name first count to) = none _ _ _
   counted_by (Frame.Call core) =
-      ruled_by (λ (o : (List ℕ × State) × Tried). P (Frame.Call core) (with_state m (o.0, replied core o.0.1 o.1)) (counted_try xs o.1)) _ _ _ _ _
+      ruled_by (λ (o : (List ℕ × State) × Result Made Status). P (Frame.Call core) (with_state m (o.0, replied core o.0.1 o.1)) (counted_try xs o.1)) _ _ _ _ _
       (λ why d. none _ _ why) (λ a b c. call core (not-false _ a) (leb-false _ _ b) (not-false _ c))
   counted_by (Frame.Arrival core) = none _ _ _
   counted_by (Frame.Refused why) = none _ _ why

@@ -1,23 +1,16 @@
 -- The loop of a report: the machine of the run and the table of counts are what is kept, and a line means what a report makes of it.
-use Rattle.std.specs.Prelude.{◌≡◌, Bool, true, List, ℕ, ◌-◌, ◌≤◌, length, take}
+use Rattle.std.specs.Prelude.{◌≡◌, Bool, true, List, ℕ, ◌-◌, ◌≤◌, length, take, None, Option}
 use Rattle.std.proofs.Math.Path.{sym}
 use Rattle.std.proofs.Common.{ap, ◌∙◌, arith}
+use Rattle.lines.specs.Next.{Line}
+use Rattle.lines.specs.declared.Next.{Next}
 use Rattle.lines.specs.Lines.{line_at, part, next_of, end_of}
 use Rattle.lines.specs.Meant.{meant}
 use Rattle.lines.specs.Input.{reading_of, next_found}
 use Rattle.lines.specs.Front.{fronted}
 use Rattle.lines.specs.Close.{closing}
 use Rattle.parsing.specs.declared.Frame.{Frame}
-use Rattle.lines.specs.declared.Next.{Next}
-use Rattle.lines.specs.declared.Next.TheVariants.{Line, Unfinished}
-use Rattle.ledger.specs.Ledger.{empty}
-use Rattle.registers.specs.Registers.{zeros}
-use Rattle.cores.specs.Cores.{first_powers, first_turns}
-use Rattle.pages.specs.Owners.{unowned}
-use Rattle.pages.specs.Named.{unnamed}
-use Rattle.mapping.specs.Lists.{unmapped}
-use Rattle.setup.specs.Table.{unset}
-use Rattle.frames.specs.Frames.{Machine, machine, first}
+use Rattle.frames.specs.Frames.{Machine, first}
 use Rattle.inputs.specs.Folds.{left}
 use Rattle.inputs.specs.Feeding.{feeding}
 use Rattle.inputs.proofs.Feeding.{feeding_end, feeding_stop, feeding_line, feeds}
@@ -33,8 +26,8 @@ module _ (s : List ℕ) (k : Kept) (at : ℕ) (o : ℕ × Kept) (inv : feeding a
   pub stops_end : length s ≤ at → (at, k) ≡ o
   stops_end h = feeding_end after_line meaning k at s h ∙ inv
 
-  module _ (next : Next) (xs ys : List ℕ) (e : (next, ys) ≡ next_of s at xs) where
-    pub stops_unfinished : next ≡ Unfinished → (at, k) ≡ o
+  module _ (next : Option Next) (xs ys : List ℕ) (e : (next, ys) ≡ next_of s at xs) where
+    pub stops_unfinished : next ≡ None → (at, k) ≡ o
     stops_unfinished is = feeding_stop after_line meaning k at s next xs ys e is ∙ inv
 
     pub goes_on : (f : Frame) (after : ℕ) → next ≡ Line f after → (between : Bool) → between ≡ apart (part s at (after - 1)) → (k' : Kept) → k' ≡ after_line k (between, (f, ys))
@@ -78,15 +71,14 @@ module _ (k₀ k : Kept) (s₀ : List ℕ) (kept : ℕ) (v : Serving k₀ k s₀
   pub served_all : n ≡ kept → 65536 ≡ length s → Ran k₀ k'
   served_all z h = Looping.served_all after_line meaning k₀ k s₀ kept v s n same k' kept' s' (carried after_line meaning k (heard s kept n) k' kept' s' e) meaning_blind z (omega arith)
 
--- ---- from tables as they are before the first frame
+-- ---- from a machine as it is before the first frame
 -- a table with the calls noted that are counted of an input
 pub record Noted (t t' : List ℕ) : Type 0 where
   pub input : List ℕ
   pub is : t' ≡ noted_all t (counted input)
 
-pub ran_noted : (s n l o r p t k c : List ℕ) (whole : Bool) (m' : Machine) (c' : List ℕ) → (whole ≡ true → Ran (machine s n l o r p t k, c) (m', c')) → whole ≡ true
-    → s ≡ unset → n ≡ unnamed → l ≡ empty → o ≡ unowned → r ≡ zeros → p ≡ first_powers → t ≡ first_turns → k ≡ unmapped → Noted c c'
+pub ran_noted : (m m' : Machine) (c c' : List ℕ) (whole : Bool) → (whole ≡ true → Ran (m, c) (m', c')) → whole ≡ true → m ≡ first → Noted c c'
 unfolding left counted
-ran_noted s n l o r p t k c whole m' c' ran y d e f g h i j z =
-    let q : Ran (first, c) (m', c') = rw (d, e, f, g, h, i, j, z) at (ran y) in
+ran_noted m m' c c' whole ran y e =
+    let q : Ran (first, c) (m', c') = rw e at (ran y) in
     record { input = q.input; is = ap (λ (u : Kept). u.1) q.is ∙ kept_noted (meant meaning q.input) first c }

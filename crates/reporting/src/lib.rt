@@ -2,49 +2,27 @@
 #![tactic(auto)]
 
 ghost use Rattle.std.specs.Prelude.{◌≡◌};
-ghost use Rattle.frames.specs.Frames.{Machine, on_machine};
 ghost use Rattle.inputs.specs.Feeding.{feeding};
 ghost use Rattle.inputs.specs.Waiting.{front, heard, taken};
 ghost use Rattle.counting.specs.Counted.{meaning, after_line};
 
-use cores::{Powers, Turns};
-use ledger::Ledger;
+use frames::Machine;
 use lines::Next;
-use mapping::Lists;
-use pages::{Named, Owners};
-use registers::Saved;
-use setup::Setup;
 use tallies::Tally;
 
 // The bytes that wait, and behind them those of a read.
 pub type Input = [u8; 65536];
 
 // Takes the complete lines of a chunk, and says how far they go.
-pub fn feed(
-    chunk: &[u8],
-    tally: &mut Tally,
-    setup: &mut Setup,
-    named: &mut Named,
-    book: &mut Ledger,
-    owners: &mut Owners,
-    saved: &mut Saved,
-    powers: &mut Powers,
-    turns: &mut Turns,
-    lists: &mut Lists,
-) -> usize
-    ensures { on_machine setup named book owners saved powers turns lists (λ (m m' : Machine). (result, (m', tally.new)) ≡ feeding after_line meaning (m, tally.old) 0 chunk.now) }
+pub fn feed(chunk: &[u8], tally: &mut Tally, machine: &mut Machine) -> usize
+    ensures { (result, (machine.new, tally.new)) ≡ feeding after_line meaning (machine.old, tally.old) 0 chunk.now }
 {
     let mut x = [0u64; 8];
     let mut at: usize = 0;
-    while at < chunk.len() {
-        let Next::Line { frame, after } = lines::next_line(chunk, at, &mut x) else {
-            return at;
-        };
+    while let Some(Next { frame, after }) = lines::next_line(chunk, at, &mut x) {
         let end = after - 1;
         let between = counting::is_apart(&chunk[at..end]);
-        counting::take_line(
-            between, frame, &x, tally, setup, named, book, owners, saved, powers, turns, lists,
-        );
+        counting::take_line(between, frame, &x, tally, machine);
         at = after;
     }
     at
@@ -56,30 +34,12 @@ pub fn take_read(
     kept: usize,
     n: usize,
     tally: &mut Tally,
-    setup: &mut Setup,
-    named: &mut Named,
-    book: &mut Ledger,
-    owners: &mut Owners,
-    saved: &mut Saved,
-    powers: &mut Powers,
-    turns: &mut Turns,
-    lists: &mut Lists,
+    machine: &mut Machine,
 ) -> usize
-    ensures { on_machine setup named book owners saved powers turns lists (λ (m m' : Machine). ((m', tally.new), front result buf.new) ≡ taken after_line meaning (m, tally.old) (heard buf.old kept n)) }
+    ensures { ((machine.new, tally.new), front result buf.new) ≡ taken after_line meaning (machine.old, tally.old) (heard buf.old kept n) }
 {
     let end = lines::close(buf, kept, n);
     let bytes: &[u8] = buf;
-    let used = feed(
-        &bytes[0..end],
-        tally,
-        setup,
-        named,
-        book,
-        owners,
-        saved,
-        powers,
-        turns,
-        lists,
-    );
+    let used = feed(&bytes[0..end], tally, machine);
     lines::to_front(buf, used, end)
 }

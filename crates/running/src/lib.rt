@@ -1,5 +1,5 @@
 // The world that runs on a core.
-#![tactic(auto)]
+#![tactic(auto, using(crate::specs::Running::runs))]
 
 ghost use Rattle.std.specs.Prelude.{◌≡◌};
 ghost use Rattle.running.specs.Running.{running_on, runs_after};
@@ -7,7 +7,8 @@ ghost use Rattle.running.specs.Running.{running_on, runs_after};
 use cores::{Powers, Turns};
 use parsing::Frame;
 
-// What stands for the world of a core that is not ON, and of a frame that is no call.
+// What stands for the world of a core that is not ON, and of a frame that is no call. No Option: `running_on`, `turned` and
+// `sentence_of` of specs/ have 255 there.
 pub const NO_WORLD: u64 = 255;
 
 // The world that runs on a core.
@@ -16,10 +17,10 @@ fn running_on(core: u64, powers: &Powers, turns: &Turns) -> u64
 {
     let power = cores::power_of(powers, core);
     if power.is_on() {
-        let turn = cores::turn_of(turns, core);
-        return turn.world;
+        cores::turn_of(turns, core).world
+    } else {
+        NO_WORLD
     }
-    NO_WORLD
 }
 
 // The world that runs on the core of a call.
@@ -27,11 +28,7 @@ pub fn runs_after(frame: Frame, powers: &Powers, turns: &Turns) -> u64
     ensures { result ≡ runs_after frame powers.now turns.now }
 {
     match frame {
-        Frame::Site { .. } => NO_WORLD,
-        Frame::Entry { .. } => NO_WORLD,
-        Frame::Name { .. } => NO_WORLD,
         Frame::Call { core } => running_on(core, powers, turns),
-        Frame::Arrival { .. } => NO_WORLD,
-        Frame::Refused(_) => NO_WORLD,
+        _ => NO_WORLD,
     }
 }

@@ -1,18 +1,16 @@
 -- The three frames of set-up: what each does, and how it is answered. And whether a frame for a core may come.
-use Rattle.std.specs.Prelude.{Bool, false, not, ◌&&◌, ◌||◌, List, ℕ, leb}
+use Rattle.std.specs.Prelude.{Bool, false, not, ◌&&◌, ◌||◌, List, ℕ, leb, Err, Ok, Result, ⊤}
+use Rattle.rules.specs.declared.Fault.TheVariants as Fault
+use Rattle.rules.specs.declared.Fault.{Fault}
 use Rattle.rules.specs.Sizes.{root, most_cores}
 use Rattle.rules.specs.Choice.{pick}
 use Rattle.ledger.specs.Ledger.{entered}
-use Rattle.rules.specs.declared.Entered.{Entered}
-use Rattle.rules.specs.declared.Entered.TheVariants as Entered
 use Rattle.pages.specs.Window.{acceptable}
 use Rattle.pages.specs.Owners.{given}
 use Rattle.pages.specs.Naming.{naming}
 use Rattle.pages.specs.declared.Window.{Window}
 use Rattle.parsing.specs.declared.Status.{Status}
 use Rattle.parsing.specs.declared.Status.TheVariants.{Accepted, Misplaced, OutOfRange, Clash}
-use Rattle.setup.specs.declared.Verdict.{Verdict}
-use Rattle.setup.specs.declared.Verdict.TheVariants as Verdict
 use Rattle.setup.specs.Table.{ready, ended, window, cores, fixed}
 use Rattle.setup.specs.Statuses.{ruled}
 
@@ -32,10 +30,10 @@ unfoldable pub untimely : List ℕ → Bool
 untimely s = not (ready s) || ended s
 
 -- how the ledger's answer and that of the pages are told
-abbrev pub entered_status : Entered → Status
-entered_status Entered.Accepted = Accepted
-entered_status Entered.OutOfRange = OutOfRange
-entered_status Entered.Taken = Clash
+abbrev pub entered_status : Result ⊤ Fault → Status
+entered_status (Ok tt) = Accepted
+entered_status (Err Fault.OutOfRange) = OutOfRange
+entered_status (Err Fault.Taken) = Clash
 
 -- the ledger
 unfoldable pub entering : List ℕ → List ℕ → ℕ → ℕ → ℕ → ℕ → List ℕ × Status
@@ -51,5 +49,5 @@ naming_in s owners named first count to =
 abbrev pub core_ruled : {A : Type 0} → (Status → A) → List ℕ → ℕ → Bool → A → A
 core_ruled deny s core fits done = ruled deny (not (ready s)) (leb (cores s) core) (not fits) done
 
-abbrev pub core_verdict : List ℕ → ℕ → Bool → Verdict
-core_verdict s core fits = core_ruled Verdict.Refused s core fits Verdict.Granted
+abbrev pub core_verdict : List ℕ → ℕ → Bool → Result ⊤ Status
+core_verdict s core fits = core_ruled Err s core fits (Ok tt)

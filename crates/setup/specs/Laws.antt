@@ -1,20 +1,18 @@
 -- How the code's branches meet the definitions of Frames: one law for each outcome.
-use Rattle.std.specs.Prelude.{◌≡◌, Bool, true, false, not, List, ℕ, ◌≤◌, ◌<◌, leb}
+use Rattle.std.specs.Prelude.{◌≡◌, Bool, true, false, not, List, ℕ, ◌≤◌, ◌<◌, leb, Err, Ok, Result, ⊤}
 use Rattle.std.proofs.Math.Path.{refl, sym, ap}
 use Rattle.std.proofs.Common.{◌∙◌}
 use borrow.Author.Tests.{le-leb, lt-leb}
+use Rattle.rules.specs.declared.Fault.{Fault}
 use Rattle.rules.specs.Sizes.{root, most_cores}
 use Rattle.rules.specs.Choice.{picked, passed, left_false, right_false, first_or, not_true, not_false}
 use Rattle.ledger.specs.Ledger.{entered}
-use Rattle.rules.specs.declared.Entered.{Entered}
 use Rattle.pages.specs.Window.{acceptable}
 use Rattle.pages.specs.Owners.{given}
 use Rattle.pages.specs.Naming.{naming}
 use Rattle.pages.specs.declared.Window.{Window}
 use Rattle.parsing.specs.declared.Status.{Status}
 use Rattle.parsing.specs.declared.Status.TheVariants.{Accepted, Misplaced, OutOfRange, Clash}
-use Rattle.setup.specs.declared.Verdict.{Verdict}
-use Rattle.setup.specs.declared.Verdict.TheVariants as Verdict
 use Rattle.setup.specs.Table.{ready, ended, window, cores, fixed}
 use Rattle.setup.specs.Statuses.{ruled_misplaced, ruled_outside, ruled_clash, ruled_done, ruled_told}
 use Rattle.setup.specs.Frames.{fits, sited, untimely, entered_status, entering, naming_in, core_ruled, core_verdict}
@@ -69,7 +67,7 @@ module _ (s : List ℕ) (u : Bool) (is : u ≡ untimely s) where
     unfolding entering
     enters_not e = picked _ _ _ _ (sym is ∙ e) refl
 
-    pub enters : (e : Entered) (t' : List ℕ) (told : Status) → u ≡ false → (e, t') ≡ entered t first last kind number → told ≡ entered_status e
+    pub enters : (e : Result ⊤ Fault) (t' : List ℕ) (told : Status) → u ≡ false → (e, t') ≡ entered t first last kind number → told ≡ entered_status e
         → (t', told) ≡ entering s t first last kind number
     unfolding entering
     enters e t' told n h k = passed _ _ _ _ (sym is ∙ n) (rw (← h, k))
@@ -79,7 +77,7 @@ module _ (s : List ℕ) (u : Bool) (is : u ≡ untimely s) where
     unfolding naming_in
     names_not e = picked _ _ _ _ (sym is ∙ e) refl
 
-    pub names : (w : Window) (a : Entered) (o' n' : List ℕ) (told : Status) → u ≡ false → w ≡ window s → (a, (o', n')) ≡ naming o n w.pages first count to → told ≡ entered_status a
+    pub names : (w : Window) (a : Result ⊤ Fault) (o' n' : List ℕ) (told : Status) → u ≡ false → w ≡ window s → (a, (o', n')) ≡ naming o n w.pages first count to → told ≡ entered_status a
         → ((o', n'), told) ≡ naming_in s o n first count to
     unfolding naming_in
     names w a o' n' told e i h k = passed _ _ _ _ (sym is ∙ e) (rw (← i, ← h, k))
@@ -88,35 +86,35 @@ pub ruleset attempts = (enters_not, enters, names_not, names)
 
 -- ---- a frame for a core
 module _ (s : List ℕ) (core : ℕ) (fits r : Bool) (is : r ≡ ready s) where
-  pub core_early : r ≡ false → Verdict.Refused Misplaced ≡ core_verdict s core fits
+  pub core_early : r ≡ false → Err Misplaced ≡ core_verdict s core fits
   core_early e = ruled_misplaced _ _ _ _ _ _ (not_true _ (sym is ∙ e)) refl
 
   module _ (e : r ≡ true) (n : ℕ) (has : n ≡ cores s) where
-    pub core_none : n ≤ core → Verdict.Refused OutOfRange ≡ core_verdict s core fits
+    pub core_none : n ≤ core → Err OutOfRange ≡ core_verdict s core fits
     core_none h = ruled_outside _ _ _ _ _ _ (not_false _ (sym is ∙ e)) (le-leb _ _ (rw has at h)) refl
 
-    pub core_unfit : core < n → fits ≡ false → Verdict.Refused Clash ≡ core_verdict s core fits
+    pub core_unfit : core < n → fits ≡ false → Err Clash ≡ core_verdict s core fits
     core_unfit h f = ruled_clash _ _ _ _ _ _ (not_false _ (sym is ∙ e)) (lt-leb _ _ (rw has at h)) (not_true _ f) refl
 
-    pub core_fit : core < n → fits ≡ true → Verdict.Granted ≡ core_verdict s core fits
+    pub core_fit : core < n → fits ≡ true → (Ok tt) ≡ core_verdict s core fits
     core_fit h f = ruled_done _ _ _ _ _ _ (not_false _ (sym is ∙ e)) (lt-leb _ _ (rw has at h)) (not_false _ f) refl
 
 pub ruleset core_rows = (core_early, core_none, core_unfit, core_fit)
 
 -- what is made of a verdict
-module _ {A : Type 0} (deny : Status → A) (s : List ℕ) (core : ℕ) (fits : Bool) (done : A) (v : Verdict) (is : v ≡ core_verdict s core fits) where
-  outcome : Verdict → A
-  outcome Verdict.Granted = done
-  outcome (Verdict.Refused why) = deny why
+module _ {A : Type 0} (deny : Status → A) (s : List ℕ) (core : ℕ) (fits : Bool) (done : A) (v : Result ⊤ Status) (is : v ≡ core_verdict s core fits) where
+  outcome : Result ⊤ Status → A
+  outcome (Ok tt) = done
+  outcome (Err why) = deny why
 
   by_verdict : outcome v ≡ core_ruled deny s core fits done
   unfolding outcome
-  by_verdict = ap outcome is ∙ ruled_told outcome Verdict.Refused (not (ready s)) (leb (cores s) core) (not fits) Verdict.Granted
+  by_verdict = ap outcome is ∙ ruled_told outcome Err (not (ready s)) (leb (cores s) core) (not fits) (Ok tt)
 
-  pub core_refused : (why : Status) → v ≡ Verdict.Refused why → deny why ≡ core_ruled deny s core fits done
+  pub core_refused : (why : Status) → v ≡ Err why → deny why ≡ core_ruled deny s core fits done
   unfolding outcome
   core_refused why e = ap outcome (sym e) ∙ by_verdict
 
-  pub core_granted : v ≡ Verdict.Granted → done ≡ core_ruled deny s core fits done
+  pub core_granted : v ≡ (Ok tt) → done ≡ core_ruled deny s core fits done
   unfolding outcome
   core_granted e = ap outcome (sym e) ∙ by_verdict

@@ -8,17 +8,11 @@ ghost use Rattle.setup.specs.Frames.{fits, sited, untimely, entered_status, ente
 use ledger::Ledger;
 use pages::{Named, Owners, Window};
 use parsing::Status;
-use rules::{Entered, MOST_CORES, ROOT};
+use rules::{Fault, MOST_CORES, ROOT};
 
 // Whether a site was accepted, whether a call has ended set-up, and the site: base and pages of the window, and the cores.
+// Five numbers and no struct, since a caller in C lends them.
 pub type Setup = [u64; 5];
-
-// Whether a frame is carried out, or why not.
-#[derive(Clone, Copy)]
-pub enum Verdict {
-    Granted,
-    Refused(Status),
-}
 
 // Set-up before the first frame.
 pub fn fresh() -> Setup
@@ -70,24 +64,16 @@ fn fix(setup: &mut Setup, base: u64, pages: u64, cores: u64)
 pub fn end(setup: &mut Setup)
     ensures { setup.new ≡ over setup.old }
 {
-    let ready = setup[0];
-    let base = setup[2];
-    let pages = setup[3];
-    let cores = setup[4];
+    let [ready, _, base, pages, cores] = *setup;
     *setup = [ready, 1, base, pages, cores];
 }
 
 // Whether the values of a site are in their ranges.
+#[tactic(auto, unfolding(crate::specs::Frames::fits))]
 fn is_fit(window: Window, cores: u64) -> bool
     ensures { result ≡ fits window cores }
 {
-    if window.acceptable() {
-        if cores < 1 {
-            return false;
-        }
-        return cores <= MOST_CORES;
-    }
-    false
+    window.acceptable() && 1 <= cores && cores <= MOST_CORES
 }
 
 // Frame 11: the site is fixed, once, and each page of its window gets Root's mark.
@@ -107,23 +93,21 @@ pub fn fix_site(setup: &mut Setup, owners: &mut Owners, base: u64, pages: u64, c
 }
 
 // Whether it is too early or too late for a ledger entry or the naming of pages.
+#[tactic(auto, unfolding(crate::specs::Frames::untimely))]
 fn is_untimely(setup: &Setup) -> bool
     ensures { result ≡ untimely setup.now }
 {
-    if is_ready(setup) {
-        return is_ended(setup);
-    }
-    true
+    !is_ready(setup) || is_ended(setup)
 }
 
 // How the ledger's answer and that of the pages are told.
-fn entered_status(e: Entered) -> Status
+fn entered_status(e: Result<(), Fault>) -> Status
     ensures { result ≡ entered_status e }
 {
     match e {
-        Entered::Accepted => Status::Accepted,
-        Entered::OutOfRange => Status::OutOfRange,
-        Entered::Taken => Status::Clash,
+        Ok(()) => Status::Accepted,
+        Err(Fault::OutOfRange) => Status::OutOfRange,
+        Err(Fault::Taken) => Status::Clash,
     }
 }
 
@@ -163,17 +147,17 @@ pub fn name_pages(
 }
 
 // 20 and 21: whether the frame may come, there is such a core, and it is in the state that the frame asks for.
-pub fn judge_core(setup: &Setup, core: u64, fits: bool) -> Verdict
+pub fn judge_core(setup: &Setup, core: u64, fits: bool) -> Result<(), Status>
     ensures { result ≡ core_verdict setup.now core fits }
 {
     if is_ready(setup) {
         if cores_of(setup) <= core {
-            return Verdict::Refused(Status::OutOfRange);
+            return Err(Status::OutOfRange);
         }
         if fits {
-            return Verdict::Granted;
+            return Ok(());
         }
-        return Verdict::Refused(Status::Clash);
+        return Err(Status::Clash);
     }
-    Verdict::Refused(Status::Misplaced)
+    Err(Status::Misplaced)
 }

@@ -1,13 +1,13 @@
 -- What mending sets down: the text of the kept lines, that of the dropped ones, and three numbers: how many lines came, and where each text ends.
-use Rattle.std.specs.Prelude.{◌≡◌, Bool, true, false, List, [], ◌∷◌, ◌++◌, eqb, ltb, length, take, drop, set}
-use Rattle.std.proofs.Math.Path.{refl}
-use Rattle.std.proofs.Common.{◌∙◌, add-one, add-zero, length-append, drop_of_length-le, drop-cons, take_all, lt-ltb, le-ltb, eq-eqb, ne_eqb}
-use Prim.Native.Nat.{ℕ, suc, ◌+◌, ◌-◌, ◌≤◌, ◌<◌}
+use Rattle.std.specs.Prelude.{◌≡◌, Bool, min, true, false, List, [], ◌∷◌, ◌++◌, eqb, ltb, length, take, set}
+use Rattle.std.proofs.Math.Path.{refl, ap}
+use Rattle.std.proofs.Common.{◌∙◌, length-append, take_all, lt-ltb, le-ltb, eq-eqb, ne_eqb, ltb-true, ltb-false}
+use Prim.Native.Nat.{ℕ, ◌+◌, ◌≤◌, ◌<◌}
 use native.Mathlib.Omega.{arith}
-use Rattle.std.proofs.Math.ListN.{get_or, length-set}
+use Rattle.std.proofs.Math.ListN.{get_or}
 use Rattle.rules.specs.Lent.{Lent}
-use Rattle.rules.specs.Choice.{pick, picked, passed}
-use Rattle.tools.specs.Laid.{laid, put, put_fits, put_not}
+use Rattle.rules.specs.Choice.{pick, picked, passed, either}
+use Rattle.tools.specs.Laid.{put, put_not}
 use Rattle.hex_digits.specs.Hex.{in_hex, length_hex}
 use Rattle.hex_write.specs.Put.{put_then, put_three}
 
@@ -88,35 +88,7 @@ noted_on s status l =
 unfoldable pub finished : List ℕ → List ℕ → List ℕ → ℕ × List ℕ
 finished k d e = pick (ltb most (came e)) (put k 0 too_many) (put k (get_or e 1 0) (take (get_or e 2 0) d))
 
--- ---- a text laid byte by byte: what is left of it, laid behind those, makes the whole
-pub record Laying (o₀ o text : List ℕ) (at i : ℕ) : Type 0 where
-  pub size : length o ≡ length o₀
-  pub rest : laid o (at + i) (drop i text) ≡ laid o₀ at text
-
-module _ (o₀ text : List ℕ) (at : ℕ) where
-  pub laying_none : Laying o₀ o₀ text at 0
-  laying_none = record { size = refl; rest = rw add-zero }
-
-  pub laying_more : (o : List ℕ) (i : ℕ) → Laying o₀ o text at i → i < length text → Laying o₀ (set o (at + i) (get_or text i 0)) text at (i + 1)
-  unfolding laid
-  laying_more o i d h =
-      let e : at + (i + 1) ≡ suc (at + i) = omega arith in
-      record { size = length-set o (at + i) (get_or text i 0) ∙ d.size; rest = rw (e, add-one) (rw (drop-cons text i 0 h) at d.rest) }
-
-  pub laying_end : (o : List ℕ) (i : ℕ) → Laying o₀ o text at i → length text ≤ i → o ≡ laid o₀ at text
-  unfolding laid
-  laying_end o i d h = rw (drop_of_length-le text h) at d.rest
-
-pub ruleset layings = (laying_none, laying_more, laying_end)
-
 -- ---- texts put or not
-module _ (o text : List ℕ) (at : ℕ) where
-  pub text_not : length o < at + length text → (at, o) ≡ put o at text
-  text_not h = put_not o at text (length text) refl h
-
-  pub text_put : (p : List ℕ) → at + length text ≤ length o → p ≡ laid o at text → (at + length text, p) ≡ put o at text
-  text_put p h e = put_fits o at text (length text) refl p h e
-
 module _ (o l : List ℕ) (at : ℕ) where
   pub line_not : length o ≤ at + length l → (at, o) ≡ put o at (line_text l)
   unfolding line_text
@@ -177,10 +149,11 @@ module _ (k d e : List ℕ) where
   finish_over o p a b h g x y = picked _ _ _ _ (lt-ltb most (came e) h) (put_then k o p 0 a b 4 1 _ _ (length_hex 4 0xa08f) refl g x y)
 
   module _ (h : came e ≤ most) (r : ℕ × List ℕ) where
-    pub finish_all : length d < get_or e 2 0 → r ≡ put k (get_or e 1 0) d → r ≡ finished k d e
+    pub finish_all : (m : ℕ) (text : List ℕ) → m ≡ min (get_or e 2 0) (length d) → text ≡ take m d → r ≡ put k (get_or e 1 0) text → r ≡ finished k d e
     unfolding finished
-    finish_all g x = passed _ _ _ _ (le-ltb most (came e) h) (rw (take_all (get_or e 2 0) d (omega arith)) x)
-
-    pub finish_some : r ≡ put k (get_or e 1 0) (take (get_or e 2 0 - 0) (drop 0 d)) → r ≡ finished k d e
-    unfolding finished
-    finish_some x = let z : get_or e 2 0 - 0 ≡ get_or e 2 0 = omega arith in passed _ _ _ _ (le-ltb most (came e) h) (rw z at x)
+    finish_all m text f g x =
+        let few : take m d ≡ take (get_or e 2 0) d =
+        either (ltb (get_or e 2 0) (length d))
+        (λ y. let z : get_or e 2 0 < length d = ltb-true _ _ y in let q : m ≡ get_or e 2 0 = omega arith in rw q)
+        (λ y. let z : length d ≤ get_or e 2 0 = ltb-false _ _ y in rw (take_all m d (omega arith), take_all (get_or e 2 0) d z)) in
+        passed _ _ _ _ (le-ltb most (came e) h) (x ∙ ap (put k (get_or e 1 0)) (g ∙ few))

@@ -2,7 +2,7 @@
 #![tactic(auto)]
 
 ghost use Rattle.std.specs.Prelude.{◌≡◌, ◌+◌, ◌≤◌, length};
-ghost use Rattle.tools.specs.Laid.{laid, put};
+ghost use Rattle.tools.specs.Laid.{put};
 ghost use Rattle.sheets.specs.Sheet.{line_text, number_text, dropped_text, counting, on_sheet, kept_on, dropped_on, noted_on, finished, Sheet};
 
 // At most so many lines are mended.
@@ -17,46 +17,18 @@ pub type Kept = [u8; 17408];
 // Room for 512 notices.
 pub type Dropped = [u8; 4608];
 
-// How many lines came, where the text of the kept ones ends, and where that of the dropped ones.
+// How many lines came, where the text of the kept ones ends, and where that of the dropped ones. A row and no struct: `Sheet` and the
+// theorems on it have them as a list.
 pub type Ends = [u64; 3];
 
-// Lays a text over others.
-fn lay_text(out: &mut [u8], at: usize, text: &[u8])
-    requires { at + length text.now ≤ length out.old }
-    ensures { out.new ≡ laid out.old at text.now }
-{
-    let mut i: usize = 0;
-    while i < text.len() {
-        out[at + i] = text[i];
-        i += 1;
-    }
-}
-
-// A text, and the place behind it; where it does not fit, nothing is put and the place stays.
-fn put_text(out: &mut [u8], at: usize, text: &[u8]) -> usize
-    ensures { (result, out.new) ≡ put out.old at text.now }
-{
-    if out.len() < text.len() {
-        return at;
-    }
-    if out.len() - text.len() < at {
-        return at;
-    }
-    lay_text(out, at, text);
-    at + text.len()
-}
-
-// A line and its newline, put or not in the same way.
+// A line and its newline, and the place behind them; where they do not fit, nothing is put and the place stays.
 fn put_line(out: &mut [u8], at: usize, line: &[u8]) -> usize
     ensures { (result, out.new) ≡ put out.old at (line_text line.now) }
 {
-    if out.len() <= line.len() {
+    if out.len() <= line.len() || out.len() - line.len() <= at {
         return at;
     }
-    if out.len() - line.len() <= at {
-        return at;
-    }
-    let a = put_text(out, at, line);
+    let a = writing::put_text(out, at, line);
     hex_write::put_end(out, a)
 }
 
@@ -73,10 +45,7 @@ fn put_number(out: &mut [u8], at: usize, number: u64) -> usize
 fn put_notice(out: &mut [u8], at: usize, number: u64, status: u64) -> usize
     ensures { (result, out.new) ≡ put out.old at (dropped_text number status) }
 {
-    if out.len() < NOTICE {
-        return at;
-    }
-    if out.len() - NOTICE < at {
+    if out.len() < NOTICE || out.len() - NOTICE < at {
         return at;
     }
     let a = put_number(out, at, number);
@@ -113,7 +82,7 @@ fn leave(status: u64, dropped: &mut Dropped, ends: &mut Ends)
     ends[2] = end as u64;
 }
 
-// Sets down a line that was judged: with status 0 it is kept.
+// Sets down a line that was judged: with status 0 it is kept. The status is a number, as `noted_on` has it and a notice shows it.
 pub fn note(status: u64, line: &[u8], kept: &mut Kept, dropped: &mut Dropped, ends: &mut Ends)
     ensures { on_sheet kept dropped ends (λ (s s' : Sheet). s' ≡ noted_on s status line.now) }
 {
@@ -135,9 +104,5 @@ pub fn finish(kept: &mut Kept, dropped: &Dropped, ends: &Ends) -> usize
     }
     let at = ends[1] as usize;
     let n = ends[2] as usize;
-    let notices: &[u8] = dropped;
-    if notices.len() < n {
-        return put_text(space, at, notices);
-    }
-    put_text(space, at, &notices[0..n])
+    writing::put_text(space, at, &dropped[..n.min(dropped.len())])
 }

@@ -16,7 +16,7 @@ pub enum Reply {
     Called { core: u64, world: u64, shown: Shown },
 }
 
-// The world shown for a core that is not ON.
+// The world shown for a core that is not ON: no Option, since `shown_on` has the number, and an answer shows it.
 pub const NO_WORLD: u64 = 255;
 
 // What is shown of a core after its call.

@@ -1,16 +1,15 @@
 -- Which pages a line is about: those that it names an owner for, and those whose transfer a call asks for.
-use Rattle.std.specs.Prelude.{Bool, true, false, ◌&&◌, List, ℕ, ◌+◌, ◌*◌, ◌/◌, eqb, ltb}
+use Rattle.std.specs.Prelude.{Bool, true, false, ◌&&◌, List, ℕ, ◌+◌, ◌*◌, ◌/◌, eqb, ltb, None, Option, Some}
+use Rattle.spans.specs.Named.{Pages}
+use Rattle.spans.specs.declared.Span.{Span}
+use Rattle.judgements.specs.declared.Transfer.{Transfer}
 use Rattle.rules.specs.Choice.{pick}
 use Rattle.rules.specs.Sizes.{page_size}
 use Rattle.pages.specs.Window.{run_of}
 use Rattle.pages.specs.declared.Window.{Window}
-use Rattle.pages.specs.declared.Place.{Place}
-use Rattle.pages.specs.declared.Place.TheVariants.{Page, Outside}
 use Rattle.judgements.specs.Judge.{called_by, args_of, row_of}
 use Rattle.judgements.specs.Asked.{key}
 use Rattle.judgements.specs.declared.Args.{Args}
-use Rattle.judgements.specs.declared.Row.{Row}
-use Rattle.judgements.specs.declared.Row.TheVariants.{Is, NoTransfer}
 use Rattle.judgements.specs.declared.Answer.{Answer}
 use Rattle.judgements.specs.declared.Answer.TheVariants as Answer
 use Rattle.parsing.specs.Frame.{status_byte}
@@ -18,32 +17,30 @@ use Rattle.parsing.specs.declared.Frame.{Frame}
 use Rattle.parsing.specs.declared.Frame.TheVariants as Frame
 use Rattle.outcomes.specs.declared.Came.{Came}
 use Rattle.outcomes.specs.declared.Came.TheVariants.{Told, Called}
-use Rattle.spans.specs.declared.Span.{Span}
-use Rattle.spans.specs.declared.Span.TheVariants.{Pages, NoPages}
 
 -- ---- the transfer that a call asks for
 -- the one row or, where it is none, the other
-abbrev pub or_else : Row → Row → Row
-or_else (Is t) r = Is t
-or_else NoTransfer r = r
+abbrev pub or_else : Option Transfer → Option Transfer → Option Transfer
+or_else (Some t) r = Some t
+or_else None r = r
 
 -- by its identifier alone: two handlers know some, and no identifier is known to both
-unfoldable pub any_row : Args → ℕ → Row
+unfoldable pub any_row : Args → ℕ → Option Transfer
 any_row a key = or_else (row_of a 2 key) (row_of a 1 key)
 
 -- the run that lies there
-abbrev pub lying : Place → ℕ → Span
-lying (Page first) count = Pages first count
-lying Outside count = NoPages
+abbrev pub lying : Option ℕ → ℕ → Option Span
+lying (Some first) count = Pages first count
+lying None count = None
 
-abbrev pub span_of : Window → ℕ → ℕ → Span
+abbrev pub span_of : Window → ℕ → ℕ → Option Span
 span_of w start count = lying (run_of w start count) count
 
-abbrev pub span_by : Window → Args → Row → Span
-span_by w a (Is t) = span_of w a.x1 t.count
-span_by w a NoTransfer = NoPages
+abbrev pub span_by : Window → Args → Option Transfer → Option Span
+span_by w a (Some t) = span_of w a.x1 t.count
+span_by w a None = None
 
-unfoldable pub asked_by : Window → List ℕ → Span
+unfoldable pub asked_by : Window → List ℕ → Option Span
 asked_by w xs = let a = args_of (called_by xs) xs in span_by w a (any_row a (key xs))
 
 -- ---- the pages for which a line names an owner
@@ -61,27 +58,27 @@ is_done (Answer.Count n) = false
 is_done Answer.Silent = false
 is_done (Answer.No r) = false
 
-abbrev pub named_in : Frame → Span
-named_in (Frame.Site base pages cores) = NoPages
-named_in (Frame.Entry first last kind number) = NoPages
+abbrev pub named_in : Frame → Option Span
+named_in (Frame.Site base pages cores) = None
+named_in (Frame.Entry first last kind number) = None
 named_in (Frame.Name first count to) = Pages first count
-named_in (Frame.Call core) = NoPages
-named_in (Frame.Arrival core) = NoPages
-named_in (Frame.Refused why) = NoPages
+named_in (Frame.Call core) = None
+named_in (Frame.Arrival core) = None
+named_in (Frame.Refused why) = None
 
 -- a set-up line that is accepted, with status 00, or a transfer that is granted
-unfoldable pub named : Window → Frame → List ℕ → Came → Span
-named w f xs (Told why) = pick (eqb (status_byte why) 0) (named_in f) NoPages
-named w f xs (Called made) = pick (is_done made.answer) (asked_by w xs) NoPages
+unfoldable pub named : Window → Frame → List ℕ → Came → Option Span
+named w f xs (Told why) = pick (eqb (status_byte why) 0) (named_in f) None
+named w f xs (Called made) = pick (is_done made.answer) (asked_by w xs) None
 
 -- ---- the pages whose transfer a call asks for
 -- of some pages from `start` on, an address lies in the page that holds this one
 unfoldable pub over_page : ℕ → ℕ → ℕ → Bool
 over_page address start count = let at = address / page_size * page_size in ltb 0 count && (ltb start (at + page_size) && ltb at (start + count * page_size))
 
-abbrev pub over_by : ℕ → Args → Row → Bool
-over_by address a (Is t) = over_page address a.x1 t.count
-over_by address a NoTransfer = false
+abbrev pub over_by : ℕ → Args → Option Transfer → Bool
+over_by address a (Some t) = over_page address a.x1 t.count
+over_by address a None = false
 
 -- wherever they lie
 unfoldable pub asks_over : ℕ → List ℕ → Bool
@@ -102,6 +99,6 @@ is_verdict Answer.Silent = false
 is_verdict (Answer.No r) = true
 
 -- a page of the window is asked for, by an address in it
-abbrev pub asks_for : Place → ℕ → List ℕ → Answer → Bool
-asks_for (Page page) address xs a = is_verdict a && asks_over address xs
-asks_for Outside address xs a = false
+abbrev pub asks_for : Option ℕ → ℕ → List ℕ → Answer → Bool
+asks_for (Some page) address xs a = is_verdict a && asks_over address xs
+asks_for None address xs a = false

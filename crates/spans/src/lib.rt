@@ -6,48 +6,44 @@ ghost use Rattle.judgements.specs.Read.{args_by};
 ghost use Rattle.spans.specs.Spans.{any_row, span_of, asked_by, is_done, named_in, named, over_page, asks_over, is_verdict, asks_for};
 
 use calls::Made;
-use judgements::{Answer, Row};
+use judgements::{Answer, Transfer};
 use outcomes::Came;
-use pages::{Place, Window};
+use pages::Window;
 use parsing::{Frame, Status};
 use rules::PAGE_SIZE;
 
-// Some pages of the window, from the first one's place on.
+// A run of pages, of which the first has this place in the window.
 #[derive(Clone, Copy)]
-pub enum Span {
-    Pages { first: u64, count: u64 },
-    NoPages,
+pub struct Span {
+    pub first: u64,
+    pub count: u64,
 }
 
 // The transfer that a call is by its identifier: two handlers know some, and no identifier is known to both.
-fn any_row(x: &[u64; 8], key: u32) -> Row
+fn any_row(x: &[u64; 8], key: u32) -> Option<Transfer>
     ensures { result ≡ any_row (args_by key x.now) key }
 {
-    let Row::Is(t) = page_calls::row_of(x, 2, key) else {
+    let Some(t) = page_calls::row_of(x, 2, key) else {
         return page_calls::row_of(x, 1, key);
     };
-    Row::Is(t)
+    Some(t)
 }
 
 // The pages of the window from an address on, where all of them are pages of it.
-pub fn span_of(w: Window, start: u64, count: u64) -> Span
+pub fn span_of(w: Window, start: u64, count: u64) -> Option<Span>
     ensures { result ≡ span_of w start count }
 {
-    match w.run_of(start, count) {
-        Place::Page(first) => Span::Pages { first, count },
-        Place::Outside => Span::NoPages,
-    }
+    let first = w.run_of(start, count)?;
+    Some(Span { first, count })
 }
 
 // The pages whose transfer a call asks for.
-pub fn asked_by(w: Window, x: &[u64; 8]) -> Span
+pub fn asked_by(w: Window, x: &[u64; 8]) -> Option<Span>
     ensures { result ≡ asked_by w x.now }
 {
     let q = judging::read_call(x);
     let a = q.args;
-    let Row::Is(t) = any_row(x, q.key) else {
-        return Span::NoPages;
-    };
+    let t = any_row(x, q.key)?;
     span_of(w, a.x1, t.count)
 }
 
@@ -55,46 +51,34 @@ pub fn asked_by(w: Window, x: &[u64; 8]) -> Span
 pub fn is_done(a: Answer) -> bool
     ensures { result ≡ is_done a }
 {
-    match a {
-        Answer::Version => false,
-        Answer::PowerVersion => false,
-        Answer::Done => true,
-        Answer::On => false,
-        Answer::Off => false,
-        Answer::Pending => false,
-        Answer::Owns(is) => false,
-        Answer::Leads { phys, attr } => false,
-        Answer::Count(n) => false,
-        Answer::Silent => false,
-        Answer::No(r) => false,
-    }
+    matches!(a, Answer::Done)
 }
 
 // The pages of a set-up line that names some.
-pub fn named_in(frame: Frame) -> Span
+pub fn named_in(frame: Frame) -> Option<Span>
     ensures { result ≡ named_in frame }
 {
     match frame {
-        Frame::Site { base, pages, cores } => Span::NoPages,
+        Frame::Site { base, pages, cores } => None,
         Frame::Entry {
             first,
             last,
             kind,
             handler,
-        } => Span::NoPages,
+        } => None,
         Frame::Name {
             first,
             count,
             owner,
-        } => Span::Pages { first, count },
-        Frame::Call { core } => Span::NoPages,
-        Frame::Arrival { core } => Span::NoPages,
-        Frame::Refused(why) => Span::NoPages,
+        } => Some(Span { first, count }),
+        Frame::Call { core } => None,
+        Frame::Arrival { core } => None,
+        Frame::Refused(why) => None,
     }
 }
 
 // The pages for which a line names an owner: an accepted set-up line, or a granted transfer.
-pub fn named(w: Window, frame: Frame, x: &[u64; 8], came: Came) -> Span
+pub fn named(w: Window, frame: Frame, x: &[u64; 8], came: Came) -> Option<Span>
     ensures { result ≡ named w frame x.now came }
 {
     match came {
@@ -102,33 +86,25 @@ pub fn named(w: Window, frame: Frame, x: &[u64; 8], came: Came) -> Span
             if parsing::byte_of(why) == 0 {
                 return named_in(frame);
             }
-            Span::NoPages
+            None
         }
         Came::Called(made) => {
             let answer = made.answer;
             if is_done(answer) {
                 return asked_by(w, x);
             }
-            Span::NoPages
+            None
         }
     }
 }
 
 // Whether an address of so many pages, from `start` on, lies in the page that holds this one. No sum is made that could wrap.
+#[tactic(auto, using(crate::specs::Laws::overs))]
 fn over_page(address: u64, start: u64, count: u64) -> bool
     ensures { result ≡ over_page address start count }
 {
-    if count == 0 {
-        return false;
-    }
     let page = address / PAGE_SIZE;
-    if page < start / PAGE_SIZE {
-        return false;
-    }
-    if page < count {
-        return true;
-    }
-    (page - count) * PAGE_SIZE < start
+    count != 0 && start / PAGE_SIZE <= page && (page < count || (page - count) * PAGE_SIZE < start)
 }
 
 // Whether a call asks for the transfer of an address in that page, wherever it lies.
@@ -137,7 +113,7 @@ fn asks_over(address: u64, x: &[u64; 8]) -> bool
 {
     let q = judging::read_call(x);
     let a = q.args;
-    let Row::Is(t) = any_row(x, q.key) else {
+    let Some(t) = any_row(x, q.key) else {
         return false;
     };
     over_page(address, a.x1, t.count)
@@ -147,30 +123,16 @@ fn asks_over(address: u64, x: &[u64; 8]) -> bool
 fn is_verdict(a: Answer) -> bool
     ensures { result ≡ is_verdict a }
 {
-    match a {
-        Answer::Version => false,
-        Answer::PowerVersion => false,
-        Answer::Done => true,
-        Answer::On => false,
-        Answer::Off => false,
-        Answer::Pending => false,
-        Answer::Owns(is) => false,
-        Answer::Leads { phys, attr } => false,
-        Answer::Count(n) => false,
-        Answer::Silent => false,
-        Answer::No(r) => true,
-    }
+    matches!(a, Answer::Done | Answer::No(_))
 }
 
 // Whether a call with this answer asks for the page of the window that holds the address.
-pub fn asks_for(p: Place, address: u64, x: &[u64; 8], a: Answer) -> bool
+#[tactic(auto, using(crate::specs::Laws::asking_for))]
+pub fn asks_for(p: Option<u64>, address: u64, x: &[u64; 8], a: Answer) -> bool
     ensures { result ≡ asks_for p address x.now a }
 {
-    let Place::Page(page) = p else {
+    let Some(page) = p else {
         return false;
     };
-    if is_verdict(a) {
-        return asks_over(address, x);
-    }
-    false
+    is_verdict(a) && asks_over(address, x)
 }

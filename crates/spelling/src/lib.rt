@@ -8,7 +8,7 @@ ghost use Rattle.spelling.specs.Spelled.{spelled};
 // As many numbers as the tables of any run take, and their bytes.
 pub const MOST_NUMBERS: usize = 22528;
 
-pub type Numbers = [u64; 22528];
+pub type Numbers = [u64; MOST_NUMBERS];
 
 pub type Bytes = [u8; 180224];
 
@@ -16,9 +16,7 @@ pub type Bytes = [u8; 180224];
 pub fn spell(numbers: &Numbers, bytes: &mut Bytes)
     ensures { bytes.new ≡ laid bytes.old 0 (spelled numbers.now 22528) }
 {
-    let mut i: usize = 0;
-    while i < MOST_NUMBERS {
+    for i in 0..MOST_NUMBERS {
         fip_lay::put_number(bytes, 8 * i, numbers[i], 8);
-        i += 1;
     }
 }

@@ -7,7 +7,7 @@ use Rattle.hex_digits.specs.Signs.{signs}
 use Rattle.writing.specs.Decimal.{in_decimal}
 use Rattle.writing.specs.Put.{row, blanks}
 use Rattle.words.specs.Words.{words, word_text}
-use Rattle.phrases.specs.Sentence.{piece_of, ◌▹◌}
+use Rattle.phrases.specs.Sentence.{◌▹◌}
 use Rattle.phrases.specs.Text.{indent, right_text, hex_text, gap_text, extended, upto, text_of, line_text}
 use Rattle.standing.specs.Standing.{address_of, pages_word, attributes_word, origin_said, core_said, place_said, owner_said, range_said, maps_said, mapping_said, head_said, outside_said}
 
@@ -25,5 +25,5 @@ pub lines :
     ++ line_text (outside_said 0x7ffff000)
     ≡ signs
     "how things stand after line 41\ncore 0: ON, Normal runs now\ncore 1: pending, to start at 80001000\ncore 2: OFF\n80000000 to 8000ffff    16 pages  Normal  line 3\n80010000 to 80010fff     1 page   Realm   line 12\n80011000 to 8003ffff    47 pages  Root    unnamed\nfffff000 to ffffffff                     1 page   Normal  line 3\n000100000000 to 000100002fff             3 pages  Realm   line 12\nSecure  maps 2 pages from 80003000 at 00010000, writable\n7ffff000 lies outside the window\n"
-unfolding range_said place_said owner_said core_said mapping_said maps_said origin_said address_of pages_word attributes_word is_on is_pending line_text text_of upto extended piece_of ◌▹◌ right_text indent hex_text gap_text blanks row word_text words in_decimal in_hex sign_of pick
+unfolding range_said place_said owner_said core_said mapping_said maps_said origin_said address_of pages_word attributes_word is_on is_pending line_text text_of upto extended ◌▹◌ right_text indent hex_text gap_text blanks row word_text words in_decimal in_hex sign_of pick
 lines = refl

@@ -147,6 +147,8 @@ module _ (s r : Sentence) (line : ℕ) where
   unfolding origin_said
   origin_line h e = passed _ _ _ _ (ne_eqb line 0 h) e
 
+pub ruleset origins_said = (origin_none, origin_line)
+
 module _ (wide : Bool) (a b : ℕ) where
   pub column_wide : wide ≡ true → b ≡ pick wide b a
   column_wide e = picked _ _ _ _ e refl
@@ -176,4 +178,11 @@ pub mapping_said_lem : (world : ℕ) (m : Mapping) (s a b c d e r : Sentence) (n
 unfolding mapping_said
 mapping_said_lem world m s a b c d e r n f g h i j k l o = rw (o, k, j, i, h, g, f, l)
 
-pub ruleset pieces = (place_said_lem, owner_said_lem, maps_said_lem, mapping_said_lem)
+pub range_said_lem : (v : Window) (first end owner line : ℕ) (s t r : Sentence) (wide : Bool) (n : ℕ) → s ≡ place_said v first end → wide ≡ is_wide v → n ≡ end - first → t ≡ owner_said s wide n owner → r ≡ origin_said t line
+    → r ≡ range_said v first end owner line
+unfolding range_said
+range_said_lem v first end owner line s t r wide n e f g h i = rw (i, h, e, f, g)
+
+pub ruleset pieces = (place_said_lem, range_said_lem, owner_said_lem, maps_said_lem, mapping_said_lem)
+
+pub ruleset laws = (addresses, word_laws, core_laws, origins_said, columns, pieces)

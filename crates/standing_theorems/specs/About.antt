@@ -1,9 +1,8 @@
 -- What makes a line one of a page's history, in plain numbers: it names the page in set-up, asks for the transfer of one of its addresses and is granted or refused, or maps it or unmaps it.
-use Rattle.std.specs.Prelude.{◌≡◌, ℕ, ◌+◌, ◌*◌, ◌≤◌, ◌<◌}
+use Rattle.std.specs.Prelude.{◌≡◌, ℕ, ◌+◌, ◌*◌, ◌≤◌, ◌<◌, Some}
 use Rattle.rules.specs.Sizes.{page_size}
 use Rattle.rules.specs.declared.Reason.{Reason}
 use Rattle.pages.specs.Window.{page_of}
-use Rattle.pages.specs.declared.Place.TheVariants.{Page}
 use Rattle.ranges.specs.declared.Mapping.{Mapping}
 use Rattle.mapping.specs.Lists.{held}
 use Rattle.mapping.specs.Entries.{Among}
@@ -50,7 +49,7 @@ module _ (m : Machine) (e : Event) (page : ℕ) where
     pub x : ℕ
     pub low : args_of_call.x1 ≤ x
     pub high : x < args_of_call.x1 + count * page_size
-    pub lies : page_of (window m.setup) x ≡ Page page
+    pub lies : page_of (window m.setup) x ≡ Some page
     pub settled : Settled (answer_in (state_of m) core e.1)
 
   -- An accepted call makes a mapping of this page,

@@ -2,10 +2,14 @@
 use Rattle.std.proofs.Math.Path.{◌≡◌, refl, ap}
 use Rattle.std.proofs.Common.{sym, ◌∙◌, arith}
 use Rattle.std.proofs.Math.Bool.{true, false}
-use Rattle.std.specs.Prelude.{◌&&◌, ◌||◌, ℕ, ◌+◌, ◌*◌, ◌/◌, ◌%◌, ◌≤◌, ◌<◌, leb, ltb}
+use Rattle.std.specs.Prelude.{◌&&◌, ◌||◌, ℕ, ◌+◌, ◌*◌, ◌/◌, ◌%◌, ◌≤◌, ◌<◌, leb, ltb, None, Option, Some}
 use mathlib.Core.List.{List}
 use Rattle.std.proofs.Math.Dec.{eqb}
 use borrow.Author.Tests.{eq-eqb, eqb-true, eqb-false, ne_eqb, leb-true, leb-false, ltb-true}
+use Rattle.spans.specs.Named.{Pages}
+use Rattle.spans.specs.declared.Span.{Span}
+use Rattle.mapping.specs.Leads.{To}
+use Rattle.mapping.specs.declared.Lead.{Lead}
 use Rattle.rules.specs.Choice.{pick, chosen, either, both_true, left_true, right_true, first_or, second_or, yes_or_no, pick_yes, pick_no}
 use Rattle.rules.specs.Tests.{sieve}
 use Rattle.rules.specs.Sizes.{page_size, secure}
@@ -13,7 +17,6 @@ use Rattle.rules.specs.declared.Reason.{Reason}
 use Rattle.rules.specs.declared.Reason.TheVariants as Reason
 use Rattle.pages.specs.Window.{acceptable, accepted, pages_to, page_of, run_of, run_is, run_yes, page_at, either_place}
 use Rattle.pages.specs.declared.Window.{Window}
-use Rattle.pages.specs.declared.Place.TheVariants.{Page}
 use Rattle.ranges.specs.declared.Mapping.{Mapping}
 use Rattle.mapping.specs.Mapping.{exact, has_exactly, lead_of}
 use Rattle.mapping.specs.Lists.{held}
@@ -21,8 +24,6 @@ use Rattle.mapping.specs.Entries.{Among, every_among, among_any}
 use Rattle.mapping.specs.Sound.{page_start, Formed, Sound}
 use Rattle.mapping.proofs.Sound.{granted_formed}
 use Rattle.mapping.proofs.Once.{leads}
-use Rattle.mapping.specs.declared.Lead.{Lead}
-use Rattle.mapping.specs.declared.Lead.TheVariants.{To}
 use Rattle.judgements.specs.Names.{granule_to_realm, granule_to_normal, take_pages, give_pages, map_pages, unmap_pages}
 use Rattle.judgements.specs.Judge.{Sight, called_by, args_of, Listed, row_in, row_of, wanted, architecture, standard, realm_call, handing_to_realm, trusted, by_number, by_row, by_handler, judged}
 use Rattle.judgements.specs.Asked.{key, Reached}
@@ -36,8 +37,6 @@ use Rattle.judgements.specs.declared.Args.{Args}
 use Rattle.judgements.specs.declared.Deed.{Deed}
 use Rattle.judgements.specs.declared.Deed.TheVariants.{Map, Unmap}
 use Rattle.judgements.specs.declared.Judged.{Judged}
-use Rattle.judgements.specs.declared.Row.{Row}
-use Rattle.judgements.specs.declared.Row.TheVariants.{Is, NoTransfer}
 use Rattle.judgements.specs.declared.Transfer.{Transfer}
 use Rattle.calls.specs.Step.{sight, caller_of, called}
 use Rattle.calls.specs.Effects.{answer_in, deed_in}
@@ -55,8 +54,6 @@ use Rattle.outcomes.specs.Laws.{came_by}
 use Rattle.outcomes.specs.declared.Came.{Came}
 use Rattle.origins.specs.Origins.{none, none_whole}
 use Rattle.spans.specs.Spans.{any_row, span_of, over_page, over_by, asks_over, asks_for, is_verdict, is_done, named_in, named}
-use Rattle.spans.specs.declared.Span.{Span}
-use Rattle.spans.specs.declared.Span.TheVariants.{Pages, NoPages}
 use Rattle.views.specs.Views.{holds, led_to, mapped_in, mapped_by, about, shows, shown}
 use Rattle.views.specs.declared.View.TheVariants as View
 use Rattle.guarantees.specs.Runs.{Event, Events, ran, reply, Taken}
@@ -69,13 +66,13 @@ use Rattle.standing_theorems.specs.About.{Wants, page_to_realm, page_to_normal, 
 use Rattle.standing_theorems.specs.History.{holds_inside, over_is, page_in, one_page, any_naming}
 
 -- ---- the four identifiers, and the row of each
-no_row : {P : Type 0} {t : Transfer} → NoTransfer ≡ Is t → P
+no_row : {P : Type 0} {t : Transfer} → None ≡ Some t → P
 no_row e = let z : ◌≡◌ {A = ℕ} 0 1 = cc in absurd (omega arith)
 
-row_wants : (a : Args) (k : ℕ) (t : Transfer) → any_row a k ≡ Is t → Wants a k t.count
+row_wants : (a : Args) (k : ℕ) (t : Transfer) → any_row a k ≡ Some t → Wants a k t.count
 unfolding any_row row_in pick
 row_wants a k t =
-    by_key (λ (k : ℕ). any_row a k ≡ Is t → Wants a k t.count) k
+    by_key (λ (k : ℕ). any_row a k ≡ Some t → Wants a k t.count) k
     (λ e. let z : t.count ≡ 1 = cc in rw z page_to_realm)
     (λ e. let z : t.count ≡ 1 = cc in rw z page_to_normal)
     (λ e. let z : t.count ≡ a.x2 = cc in rw z takes_pages)
@@ -108,14 +105,14 @@ over_met address start count h =
     (λ n. let l : at < start = leb-false _ _ n in record { x = start; low = omega arith; high = omega arith; same = omega arith })
 
 -- ---- a page of a run of the window
-holds_is : (first count page : ℕ) → holds (Pages first count) (Page page) ≡ true → (first ≤ page) × (page < first + count)
+holds_is : (first count page : ℕ) → holds (Pages first count) (Some page) ≡ true → (first ≤ page) × (page < first + count)
 unfolding holds
 holds_is first count page h = (
   leb-true _ _ (left_true (leb first page) (ltb page (first + count)) h),
   ltb-true _ _ (right_true (leb first page) (ltb page (first + count)) h),
 )
 
-none_holds : {P : Type 0} (page : ℕ) → holds NoPages (Page page) ≡ true → P
+none_holds : {P : Type 0} (page : ℕ) → holds None (Some page) ≡ true → P
 unfolding holds
 none_holds page h = absurd (yes_or_no false h refl)
 
@@ -124,7 +121,7 @@ module _ (w : Window) (ok : acceptable w ≡ true) (start count page : ℕ) wher
     low : start ≤ page_start w page
     high : page_start w page < start + count * page_size
 
-  span_over : holds (span_of w start count) (Page page) ≡ true → Over
+  span_over : holds (span_of w start count) (Some page) ≡ true → Over
   span_over h =
       either_place (run_of w start count)
       (λ first e.
@@ -133,7 +130,7 @@ module _ (w : Window) (ok : acceptable w ≡ true) (start count page : ℕ) wher
       record { low = omega (arith, r.starts, k.0); high = omega (arith, r.starts, k.1) })
       (λ e. none_holds page (rw e at h))
 
-  over_span : start % page_size ≡ 0 → w.base ≤ start → start + count * page_size ≤ page_start w w.pages → Over → holds (span_of w start count) (Page page) ≡ true
+  over_span : start % page_size ≡ 0 → w.base ≤ start → start + count * page_size ≤ page_start w w.pages → Over → holds (span_of w start count) (Some page) ≡ true
   over_span a l h o =
       let k = accepted w ok in
       let r = run_yes w start count (record { aligned = a; low = l; inside = omega (arith, k.aligned) }) in
@@ -144,7 +141,7 @@ module _ (s : Sight) (xs : List ℕ) where
   abbrev args : Args
   args = args_of (called_by xs) xs
 
-  module _ (k : ℕ) (row : (h : ℕ) → row_of args h k ≡ NoTransfer) (zero : NotDone (architecture args k))
+  module _ (k : ℕ) (row : (h : ℕ) → row_of args h k ≡ None) (zero : NotDone (architecture args k))
       (two : NotDone (standard s.inner.caller s.inner.powers s.inner.owners args k)) (three : NotDone (trusted s.inner.caller k)) where
     board_alone : key xs ≡ k → (judged s xs).answer ≡ Answer.Done → Reached s xs (λ h. (h ≡ 1) × (key xs ≡ k))
     unfolding by_row
@@ -157,10 +154,10 @@ module _ (s : Sight) (xs : List ℕ) where
         let v : judged s xs ≡ by_number s.inner args k h = (rw is at e) ∙ z in
         absurd (by_handlers s.inner args h k zero (λ q. absurd (eqb-false h 1 n q)) (λ q. two) three (sym (ap (λ (j : Judged). j.answer) v) ∙ d)))) refl
 
-  no_transfer : (k : ℕ) → row_of args 2 k ≡ NoTransfer → row_of args 1 k ≡ NoTransfer → (h : ℕ) → row_of args h k ≡ NoTransfer
+  no_transfer : (k : ℕ) → row_of args 2 k ≡ None → row_of args 1 k ≡ None → (h : ℕ) → row_of args h k ≡ None
   unfolding row_in pick
   no_transfer k e f h =
-      chosen (λ (ls : List Listed). row_in ls k ≡ NoTransfer) (eqb h 2) _ _ (λ y. e) (λ n. chosen (λ (ls : List Listed). row_in ls k ≡ NoTransfer) (eqb h 1) _ _ (λ y. f) (λ m. refl))
+      chosen (λ (ls : List Listed). row_in ls k ≡ None) (eqb h 2) _ _ (λ y. e) (λ n. chosen (λ (ls : List Listed). row_in ls k ≡ None) (eqb h 1) _ _ (λ y. f) (λ m. refl))
 
   board_maps : key xs ≡ map_pages → (judged s xs).answer ≡ Answer.Done → Reached s xs (λ h. (h ≡ 1) × (key xs ≡ map_pages))
   unfolding row_in architecture standard realm_call handing_to_realm trusted sieve pick
@@ -193,7 +190,7 @@ settled_verdict is_granted = refl
 settled_verdict (is_refused r) = refl
 
 -- ---- a line of the run
-module _ (m : Machine) (fit : Fit m) (e : Event) (page address : ℕ) (lies : page_of (window m.setup) address ≡ Page page) where
+module _ (m : Machine) (fit : Fit m) (e : Event) (page address : ℕ) (lies : page_of (window m.setup) address ≡ Some page) where
   abbrev w : Window
   w = window m.setup
 
@@ -217,7 +214,7 @@ module _ (m : Machine) (fit : Fit m) (e : Event) (page address : ℕ) (lies : pa
     sound : Sound w m.owners (caller_of (state_of m) core) own
     sound = (right m fit e core is ok).sound (caller_of (state_of m) core)
 
-    same_page : (x : ℕ) → x / page_size ≡ address / page_size → page_of w x ≡ Page page
+    same_page : (x : ℕ) → x / page_size ≡ address / page_size → page_of w x ≡ Some page
     same_page x q =
         let k = accepted w good in
         let i = page_in w address page lies in
@@ -232,13 +229,13 @@ module _ (m : Machine) (fit : Fit m) (e : Event) (page address : ℕ) (lies : pa
     unfolding asks_over
     asked_only v = of (any_row a (key e.1)) refl
       where
-        of : (r : Row) → any_row a (key e.1) ≡ r → over_by address a r ≡ true → About m e page
-        of (Is t) q o =
+        of : (r : Option Transfer) → any_row a (key e.1) ≡ r → over_by address a r ≡ true → About m e page
+        of (Some t) q o =
             let z = over_met address a.x1 t.count o in
             asks_it (record { core = core; is_call = is; accepted = ok; count = t.count; wants = row_wants a (key e.1) t q; x = z.x; low = z.low; high = z.high; lies = same_page z.x z.same; settled = verdict_settled answer v })
-        of NoTransfer q o = absurd (yes_or_no false o refl)
+        of None q o = absurd (yes_or_no false o refl)
 
-    maps_only : key e.1 ≡ map_pages → answer ≡ Answer.Done → holds (span_of w a.x1 (a.x3 / page_size)) (Page page) ≡ true → About m e page
+    maps_only : key e.1 ≡ map_pages → answer ≡ Answer.Done → holds (span_of w a.x1 (a.x3 / page_size)) (Some page) ≡ true → About m e page
     maps_only k d h =
         let o = span_over w good a.x1 (a.x3 / page_size) page h in
         let some : a.x3 ≡ 0 → ⊥ = λ z. omega (arith, o.low, o.high) in
@@ -246,14 +243,14 @@ module _ (m : Machine) (fit : Fit m) (e : Event) (page address : ℕ) (lies : pa
         maps_it (record { core = core; is_call = is; accepted = ok; mapping = wanted a; made = made; low = o.low; high = omega (arith, o.high) })
 
     unmapped : (n : Mapping) → Among n own → n.virt ≡ a.x1 → n.size ≡ a.x2 → deed_in (state_of m) core e.1 ≡ Unmap a.x1 a.x2
-        → holds (led_to w (lead_of own a.x1) (a.x2 / page_size)) (Page page) ≡ true → About m e page
+        → holds (led_to w (lead_of own a.x1) (a.x2 / page_size)) (Some page) ≡ true → About m e page
     unmapped n i virt size removed h =
         let l = leads_own n i in
         let z : lead_of own a.x1 ≡ To n.phys l.0 = ap (lead_of own) (sym virt) ∙ l.1 in
         let o = span_over w good n.phys (a.x2 / page_size) page (rw z at h) in
         unmaps_it (record { core = core; is_call = is; accepted = ok; mapping = n; had = i; removed = rw (virt, size) removed; low = o.low; high = omega (arith, o.high, size) })
 
-    unmaps_only : key e.1 ≡ unmap_pages → answer ≡ Answer.Done → holds (led_to w (lead_of own a.x1) (a.x2 / page_size)) (Page page) ≡ true → About m e page
+    unmaps_only : key e.1 ≡ unmap_pages → answer ≡ Answer.Done → holds (led_to w (lead_of own a.x1) (a.x2 / page_size)) (Some page) ≡ true → About m e page
     unfolding has_exactly exact
     unmaps_only k d h =
         let removed = done_deed (judged sees e.1) (asked_unmap sees e.1 (board_unmaps sees e.1 k d)) d in
@@ -262,23 +259,23 @@ module _ (m : Machine) (fit : Fit m) (e : Event) (page address : ℕ) (lies : pa
         unmapped v.0 v.1.0 (eqb-true _ _ (left_true (eqb v.0.virt a.x1) (eqb v.0.size a.x2) v.1.1))
         (eqb-true _ _ (right_true (eqb v.0.virt a.x1) (eqb v.0.size a.x2) v.1.1)) removed h
 
-    mapped_only : answer ≡ Answer.Done → holds (mapped_in w own e.1) (Page page) ≡ true → About m e page
+    mapped_only : answer ≡ Answer.Done → holds (mapped_in w own e.1) (Some page) ≡ true → About m e page
     unfolding mapped_in
     mapped_only d =
-        chosen (λ (s : Span). holds s (Page page) ≡ true → About m e page) (eqb (key e.1) map_pages) _ _ (λ y h. maps_only (eqb-true _ _ y) d h)
-        (λ n. chosen (λ (s : Span). holds s (Page page) ≡ true → About m e page) (eqb (key e.1) unmap_pages) _ _ (λ y h. unmaps_only (eqb-true _ _ y) d h) (λ k h. none_holds page h))
+        chosen (λ (s : Option Span). holds s (Some page) ≡ true → About m e page) (eqb (key e.1) map_pages) _ _ (λ y h. maps_only (eqb-true _ _ y) d h)
+        (λ n. chosen (λ (s : Option Span). holds s (Some page) ≡ true → About m e page) (eqb (key e.1) unmap_pages) _ _ (λ y h. unmaps_only (eqb-true _ _ y) d h) (λ k h. none_holds page h))
 
-    call_only : (asks_for (Page page) address e.1 answer || (is_done answer && holds (mapped_in w own e.1) (Page page))) ≡ true → About m e page
+    call_only : (asks_for (Some page) address e.1 answer || (is_done answer && holds (mapped_in w own e.1) (Some page))) ≡ true → About m e page
     call_only h =
-        either (asks_for (Page page) address e.1 answer)
+        either (asks_for (Some page) address e.1 answer)
         (λ y. asked_only (left_true (is_verdict answer) (asks_over address e.1) y) (right_true (is_verdict answer) (asks_over address e.1) y))
         (λ n.
-        let k : (is_done answer && holds (mapped_in w own e.1) (Page page)) ≡ true = rw n at h in
-        mapped_only (done_is answer (left_true (is_done answer) (holds (mapped_in w own e.1) (Page page)) k)) (right_true (is_done answer) (holds (mapped_in w own e.1) (Page page)) k))
+        let k : (is_done answer && holds (mapped_in w own e.1) (Some page)) ≡ true = rw n at h in
+        mapped_only (done_is answer (left_true (is_done answer) (holds (mapped_in w own e.1) (Some page)) k)) (right_true (is_done answer) (holds (mapped_in w own e.1) (Some page)) k))
 
     -- ---- and back
     maps_back : (n : Mapping) → deed_in (state_of m) core e.1 ≡ Map n → n.phys ≤ page_start w page → page_start w page < n.phys + n.size
-        → (is_done answer && holds (mapped_in w own e.1) (Page page)) ≡ true
+        → (is_done answer && holds (mapped_in w own e.1) (Some page)) ≡ true
     unfolding mapped_in
     maps_back n made low high =
         let c = (called_for sees e.1 (Map n) (λ k. let z : ◌≡◌ {A = ℕ} 0 1 = cc in omega arith) made).so in
@@ -290,10 +287,10 @@ module _ (m : Machine) (fit : Fit m) (e : Event) (page address : ℕ) (lies : pa
         (record { low = omega (arith, phys, low); high = omega (arith, phys, size, high, f.size_aligned) }) in
         let yes : is_done answer ≡ true = rw c.1.1 in
         let z : mapped_in w own e.1 ≡ span_of w a.x1 (a.x3 / page_size) = pick_yes (eqb (key e.1) map_pages) _ _ (eq-eqb _ _ c.0.1) in
-        both_true (is_done answer) (holds (mapped_in w own e.1) (Page page)) yes (ap (λ (s : Span). holds s (Page page)) z ∙ h)
+        both_true (is_done answer) (holds (mapped_in w own e.1) (Some page)) yes (ap (λ (s : Option Span). holds s (Some page)) z ∙ h)
 
     unmaps_back : (n : Mapping) → Among n own → deed_in (state_of m) core e.1 ≡ Unmap n.virt n.size → n.phys ≤ page_start w page → page_start w page < n.phys + n.size
-        → (is_done answer && holds (mapped_in w own e.1) (Page page)) ≡ true
+        → (is_done answer && holds (mapped_in w own e.1) (Some page)) ≡ true
     unfolding mapped_in
     unmaps_back n i removed low high =
         let c = (called_for sees e.1 (Unmap n.virt n.size) (λ k. let z : ◌≡◌ {A = ℕ} 0 1 = cc in omega arith) removed).so in
@@ -304,13 +301,13 @@ module _ (m : Machine) (fit : Fit m) (e : Event) (page address : ℕ) (lies : pa
         let h = over_span w good n.phys (a.x2 / page_size) page f.phys_aligned f.low (omega (arith, size, f.high, f.size_aligned)) (record { low = low; high = omega (arith, size, high, f.size_aligned) }) in
         let yes : is_done answer ≡ true = rw c.1.1 in
         let other : eqb (key e.1) map_pages ≡ false = ne_eqb (key e.1) map_pages (λ (k : key e.1 ≡ map_pages). omega (arith, k, c.0.1)) in
-        let led : led_to w (lead_of own a.x1) (a.x2 / page_size) ≡ span_of w n.phys (a.x2 / page_size) = ap (λ (l : Lead). led_to w l (a.x2 / page_size)) z in
+        let led : led_to w (lead_of own a.x1) (a.x2 / page_size) ≡ span_of w n.phys (a.x2 / page_size) = ap (λ (l : Option Lead). led_to w l (a.x2 / page_size)) z in
         let v : mapped_in w own e.1 ≡ span_of w n.phys (a.x2 / page_size) =
         pick_no (eqb (key e.1) map_pages) _ _ other ∙ (pick_yes (eqb (key e.1) unmap_pages) _ _ (eq-eqb _ _ c.0.1) ∙ led) in
-        both_true (is_done answer) (holds (mapped_in w own e.1) (Page page)) yes (ap (λ (s : Span). holds s (Page page)) v ∙ h)
+        both_true (is_done answer) (holds (mapped_in w own e.1) (Some page)) yes (ap (λ (s : Option Span). holds s (Some page)) v ∙ h)
 
   -- Every line that is told is one of these,
-  naming_only : (f : Frame) → e.0 ≡ f → reply m e ≡ Reply.Told Accepted → holds (named_in f) (Page page) ≡ true → About m e page
+  naming_only : (f : Frame) → e.0 ≡ f → reply m e ≡ Reply.Told Accepted → holds (named_in f) (Some page) ≡ true → About m e page
   naming_only (Frame.Site base pages cores) is told h = none_holds page h
   naming_only (Frame.Entry lowest last kind number) is told h = none_holds page h
   naming_only (Frame.Name lowest count to) is told h =
@@ -324,9 +321,9 @@ module _ (m : Machine) (fit : Fit m) (e : Event) (page address : ℕ) (lies : pa
   unfolding shows about named performed called
   only_about h =
       came_by m e.1
-      (λ (f : Frame) (o : Machine × Reply) (c : Came). e.0 ≡ f → framed m e.0 e.1 ≡ o → about (Page page) address w e.0 e.1 c (mapped_by w e.0 e.1 m.turns m.lists) ≡ true → About m e page)
+      (λ (f : Frame) (o : Machine × Reply) (c : Came). e.0 ≡ f → framed m e.0 e.1 ≡ o → about (Some page) address w e.0 e.1 c (mapped_by w e.0 e.1 m.turns m.lists) ≡ true → About m e page)
       (λ f last why k is so.
-      chosen (λ (s : Span). holds s (Page page) ≡ true → About m e page) (eqb (status_byte why) 0) _ _
+      chosen (λ (s : Option Span). holds s (Some page) ≡ true → About m e page) (eqb (status_byte why) 0) _ _
       (λ y. naming_only e.0 refl (ap (λ (o : Machine × Reply). o.1) so ∙ ap Reply.Told (status_zero why (eqb-true _ _ y)))) (λ n. none_holds page))
       (λ core b c d is so q. call_only core is (λ why k. shown_not_told _ _ _ _ why (sym (ap (λ (o : Machine × Reply). o.1) so) ∙ k)) (rw is at q))
       e.0 refl refl (rw lies at h)
@@ -341,12 +338,12 @@ module _ (m : Machine) (fit : Fit m) (e : Event) (page address : ℕ) (lies : pa
       (first_or _ _ (both_true _ _ (settled_verdict g.settled) (wants_row a (key e.1) g.count g.wants address o)))
   all_about (maps_it g) =
       rw (lies, came_called m fit e page none none_whole 0 g.core g.is_call g.accepted, g.is_call)
-      (second_or (asks_for (Page page) address e.1 (answer_in (state_of m) g.core e.1)) _ (maps_back g.core g.is_call g.accepted g.mapping g.made g.low g.high))
+      (second_or (asks_for (Some page) address e.1 (answer_in (state_of m) g.core e.1)) _ (maps_back g.core g.is_call g.accepted g.mapping g.made g.low g.high))
   all_about (unmaps_it g) =
       rw (lies, came_called m fit e page none none_whole 0 g.core g.is_call g.accepted, g.is_call)
-      (second_or (asks_for (Page page) address e.1 (answer_in (state_of m) g.core e.1)) _ (unmaps_back g.core g.is_call g.accepted g.mapping g.had g.removed g.low g.high))
+      (second_or (asks_for (Some page) address e.1 (answer_in (state_of m) g.core e.1)) _ (unmaps_back g.core g.is_call g.accepted g.mapping g.had g.removed g.low g.high))
 
 -- So it is with a line after any others.
-pub any_history : (run : Events) (e : Event) (page address : ℕ) → page_of (window (ran first run).setup) address ≡ Page page
+pub any_history : (run : Events) (e : Event) (page address : ℕ) → page_of (window (ran first run).setup) address ≡ Some page
     → (shown (View.Page address) (ran first run) e ≡ true → About (ran first run) e page) × (About (ran first run) e page → shown (View.Page address) (ran first run) e ≡ true)
 any_history run e page address lies = (only_about (ran first run) (ran_fit run) e page address lies, all_about (ran first run) (ran_fit run) e page address lies)

@@ -1,13 +1,12 @@
 -- The history of a page misses no line that asks for its transfer or names its owner.
-use Rattle.std.specs.Prelude.{◌≡◌, true, leb, ltb}
+use Rattle.std.specs.Prelude.{◌≡◌, true, leb, ltb, Option, Some}
 use Prim.Native.Nat.{ℕ, ◌+◌, ◌*◌, ◌/◌, ◌≤◌, ◌<◌}
 use Rattle.std.proofs.Common.{arith, le-leb, lt-ltb, leb-true, ltb-true}
+use Rattle.spans.specs.Named.{Pages}
 use Rattle.rules.specs.Choice.{chosen, both_true, left_true, right_true, first_or}
 use Rattle.rules.specs.Sizes.{page_size}
 use Rattle.pages.specs.Window.{accepted, acceptable, pages_to, holds_address, page_of, InPage, page_at, run_is}
 use Rattle.pages.specs.declared.Window.{Window}
-use Rattle.pages.specs.declared.Place.{Place}
-use Rattle.pages.specs.declared.Place.TheVariants.{Page}
 use Rattle.judgements.specs.Asked.{Asks, by_row_lem}
 use Rattle.judgements.specs.Decided.{Decided, done, refused}
 use Rattle.judgements.proofs.Decided.{asked_transfer}
@@ -23,7 +22,6 @@ use Rattle.outcomes.specs.declared.Came.TheVariants.{Told}
 use Rattle.frames.specs.Frames.{Machine, state_of}
 use Rattle.origins.specs.Origins.{none, none_whole}
 use Rattle.spans.specs.Spans.{any_row, named, over_page, over_by, asks_over, is_verdict}
-use Rattle.spans.specs.declared.Span.TheVariants.{Pages}
 use Rattle.views.specs.Views.{holds, about, shows, shown}
 use Rattle.views.specs.declared.View.TheVariants as View
 use Rattle.guarantees.specs.Runs.{Event, reply, Taken}
@@ -34,7 +32,7 @@ use Rattle.guarantees.specs.Owners.{Gives, moves, names}
 use Rattle.origin_theorems.specs.Rows.{row_any}
 use Rattle.origin_theorems.specs.Marked.{came_called, came_told, names_run}
 
-pub holds_inside : (first count page : ℕ) → first ≤ page → page < first + count → holds (Pages first count) (Page page) ≡ true
+pub holds_inside : (first count page : ℕ) → first ≤ page → page < first + count → holds (Pages first count) (Some page) ≡ true
 unfolding holds
 holds_inside first count page h l = both_true _ _ (le-leb first page h) (lt-ltb page (first + count) l)
 
@@ -46,10 +44,10 @@ over_is address start count x e l h =
     both_true _ _ (lt-ltb 0 count (omega arith)) (both_true _ _ (lt-ltb start (at + page_size) (omega arith)) (lt-ltb at (start + count * page_size) (omega arith)))
 
 -- the page that holds an address
-pub page_in : (w : Window) (address page : ℕ) → page_of w address ≡ Page page → InPage w address page
+pub page_in : (w : Window) (address page : ℕ) → page_of w address ≡ Some page → InPage w address page
 unfolding page_of
 page_in w address page =
-    chosen (λ (p : Place). p ≡ Page page → InPage w address page) (holds_address w address) _ _
+    chosen (λ (p : Option ℕ). p ≡ Some page → InPage w address page) (holds_address w address) _ _
     (λ y e.
     let z : pages_to w address ≡ page = cc in
     let low : w.base ≤ address = leb-true _ _ (left_true (leb w.base address) (ltb (pages_to w address) w.pages) y) in
@@ -58,7 +56,7 @@ page_in w address page =
     (λ n e. let z : ◌≡◌ {A = ℕ} 0 1 = cc in absurd (omega arith))
 
 -- two addresses of one page of an acceptable window
-pub one_page : (w : Window) → acceptable w ≡ true → (address x page : ℕ) → page_of w address ≡ Page page → page_of w x ≡ Page page → x / page_size ≡ address / page_size
+pub one_page : (w : Window) → acceptable w ≡ true → (address x page : ℕ) → page_of w address ≡ Some page → page_of w x ≡ Some page → x / page_size ≡ address / page_size
 one_page w ok address x page e f =
     let k = accepted w ok in
     let a = page_in w address page e in
@@ -73,10 +71,10 @@ verdict : {P : _} (j : Judged) → Decided Answer.Done P j → is_verdict j.answ
 verdict j (done a p) = rw a
 verdict j (refused r a) = rw a
 
-module _ (m : Machine) (fit : Fit m) (e : Event) (page address : ℕ) (lies : page_of (window m.setup) address ≡ Page page) where
+module _ (m : Machine) (fit : Fit m) (e : Event) (page address : ℕ) (lies : page_of (window m.setup) address ≡ Some page) where
   -- An accepted call that asks for the transfer of an address in the page is one of its lines, granted or refused, wherever the other addresses lie.
   pub any_asking : (core : ℕ) → e.0 ≡ Frame.Call core → Taken (reply m e) → (start count to x : ℕ) → AsksTransfer m core e.1 start count to
-      → start ≤ x → x < start + count * page_size → page_of (window m.setup) x ≡ Page page → shown (View.Page address) m e ≡ true
+      → start ≤ x → x < start + count * page_size → page_of (window m.setup) x ≡ Some page → shown (View.Page address) m e ≡ true
   unfolding shows about asks_over called
   any_asking core is ok start count to x a l h p =
       let w = window m.setup in

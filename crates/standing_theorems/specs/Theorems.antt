@@ -1,5 +1,5 @@
 -- After any lines, each core, each page of the window and each mapping is told; and the owner and the line that are told of a page are those of demand 3.
-use Rattle.std.specs.Prelude.{◌≡◌, true, ℕ, ◌+◌, ◌≤◌, ◌<◌, ltb, length}
+use Rattle.std.specs.Prelude.{◌≡◌, true, ℕ, ◌+◌, ◌≤◌, ◌<◌, ltb, length, Some}
 use mathlib.Core.List.{List, [], ◌∷◌, Memᴰ}
 use Rattle.std.proofs.Common.{arith, lt-ltb}
 use Rattle.rules.specs.Choice.{pick_yes}
@@ -7,7 +7,6 @@ use Rattle.rules.specs.Sizes.{worlds, most_mappings, most_pages}
 use Rattle.cores.specs.Cores.{power, turn}
 use Rattle.pages.specs.Owners.{owner}
 use Rattle.pages.specs.Window.{page_of, accepted, InPage, page_at}
-use Rattle.pages.specs.declared.Place.TheVariants.{Page as In}
 use Rattle.lines.specs.Lines.{lines_of}
 use Rattle.lines.specs.Input.{reading, readings}
 use Rattle.mapping.specs.Lists.{place}
@@ -98,7 +97,7 @@ module _ (input : List ℕ) (few : length (lines_of input) ≤ most) where
         let w = window k.0.setup in
         let f : Fit k.0 = rw origins.machine (always Fit fit_next first (readings input) first_fit) in
         let a = accepted w (f.right set_up).window in
-        let z : page_of w address ≡ In p = page_at w address p h in
+        let z : page_of w address ≡ Some p = page_at w address p h in
         let few_pages : p < most_pages = omega (arith, a.most, h.inside) in
         record {
           whose = owner k.0.owners p;

@@ -5,11 +5,9 @@ ghost use Rattle.std.specs.Prelude.{◌≡◌, true};
 ghost use Rattle.endings.specs.Ending.{end_lines};
 ghost use Rattle.standings.specs.Written.{Written};
 
-use cores::{Powers, Turns};
-use mapping::Lists;
+use frames::Machine;
+use inventory::Ending;
 use origins::{Lines, Origins};
-use pages::Owners;
-use setup::Setup;
 use views::View;
 
 // Room for many lines, each the longest or less.
@@ -20,21 +18,24 @@ pub fn tell(
     rt: &impl Print,
     view: View,
     out: &mut Space,
-    lines: &Lines,
-    setup: &Setup,
-    owners: &Owners,
     origins: &Origins,
-    powers: &Powers,
-    turns: &Turns,
-    lists: &Lists,
+    lines: &Lines,
+    machine: &Machine,
 ) -> bool
-    ensures { result ≡ true → Written (end_lines lines.now setup.now owners.now origins.now powers.now turns.now lists.now view) out.old out.new }
+    ensures { result ≡ true → Written (end_lines lines.now machine.now.setup machine.now.owners origins.now machine.now.powers machine.now.turns machine.now.lists view) out.old out.new }
 {
+    let ending = Ending {
+        lines,
+        setup: &machine.setup,
+        owners: &machine.owners,
+        origins,
+        powers: &machine.powers,
+        turns: &machine.turns,
+        lists: &machine.lists,
+    };
     let mut part = endings::first_part(view);
     loop {
-        let chunk = endings::put_parts(
-            out, part, lines, setup, owners, origins, powers, turns, lists,
-        );
+        let chunk = endings::put_parts(out, part, &ending);
         if !channels::write(rt, out, chunk.put) {
             return false;
         }

@@ -21,6 +21,7 @@ pub struct Fed {
 }
 
 // Answers the complete lines of a chunk, as far as there is room for their answers.
+// C lends each table by a pointer of its own (chiarumbeta_lent_feed), so they come one by one.
 pub fn feed(
     chunk: &[u8],
     out: &mut [u8],
@@ -38,12 +39,9 @@ pub fn feed(
     let mut x = [0u64; 8];
     let mut at: usize = 0;
     let mut put: usize = 0;
-    while at < chunk.len() {
-        if out.len() - put < text::LONGEST {
-            return Fed { used: at, put };
-        }
-        let Next::Line { frame, after } = lines::next_line(chunk, at, &mut x) else {
-            return Fed { used: at, put };
+    while text::LONGEST <= out.len() - put {
+        let Some(Next { frame, after }) = lines::next_line(chunk, at, &mut x) else {
+            break;
         };
         put = answering::answer(
             frame, &x, out, put, setup, named, book, owners, saved, powers, turns, lists,

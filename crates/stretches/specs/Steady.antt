@@ -1,5 +1,5 @@
 -- From an address on, how far a list decides as it does there.
-use Rattle.std.specs.Prelude.{◌≡◌, false, List, [], ◌∷◌, ltb}
+use Rattle.std.specs.Prelude.{◌≡◌, min, false, List, [], ◌∷◌, ltb}
 use Rattle.std.proofs.Math.Path.{refl, sym}
 use Rattle.std.proofs.Common.{◌∙◌, add-one}
 use Prim.Native.Nat.{ℕ, suc, ◌+◌, ◌-◌, ◌≤◌, ◌<◌}
@@ -116,14 +116,13 @@ unfolding deciding
 steady_decides l x n y lo hi = smallest_alike (holds y) (holds x) l (steady_even l x n y lo hi)
 
 -- ---- how the code meets it
-module _ (a b : ℕ) where
-  pub least_left : a < b → a ≡ least a b
-  unfolding least
-  least_left h = picked _ _ _ _ (lt-ltb a b h) refl
-
-  pub least_right : b ≤ a → b ≡ least a b
-  unfolding least
-  least_right h = passed _ _ _ _ (le-ltb a b h) refl
+pub least_min : (a b r : ℕ) → r ≡ min a b → r ≡ least a b
+unfolding least
+least_min a b r e =
+    e
+    ∙ either (ltb a b)
+    (λ y. let h = ltb-true a b y in let z : min a b ≡ a = omega arith in z ∙ sym (pick_yes (ltb a b) a b y))
+    (λ f. let h = ltb-false a b f in let z : min a b ≡ b = omega arith in z ∙ sym (pick_no (ltb a b) a b f))
 
 module _ (m : Mapping) (x n : ℕ) where
   pub stretch_empty : m.size ≡ 0 → n ≡ stretch m x n
@@ -145,7 +144,7 @@ module _ (m : Mapping) (x n : ℕ) where
     stretch_after h g =
         passed _ _ _ _ (ne_eqb m.size 0 d) (passed _ _ _ _ (le-ltb x m.virt h) (passed _ _ _ _ (le-ltb (x - m.virt) m.size g) refl))
 
-pub ruleset stretching = (least_left, least_right, stretch_empty, stretch_before, stretch_in, stretch_after)
+pub ruleset stretching = (least_min, stretch_empty, stretch_before, stretch_in, stretch_after)
 
 -- the loop: `left` is what the places below i leave
 module _ (t : List ℕ) (w x : ℕ) where

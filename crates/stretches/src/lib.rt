@@ -3,21 +3,13 @@
 
 ghost use Rattle.std.specs.Prelude.{◌≡◌};
 ghost use Rattle.mapping.specs.Lists.{held};
-ghost use Rattle.stretches.specs.Steady.{least, stretch, steady};
+ghost use Rattle.stretches.specs.Steady.{stretch, steady};
 
 use mapping::{Lists, Mapping};
 use rules::MOST_MAPPINGS;
 
-fn least(a: u64, b: u64) -> u64
-    ensures { result ≡ least a b }
-{
-    if a < b {
-        return a;
-    }
-    b
-}
-
 // How many of n addresses from x on come before the next edge of the mapping. An empty one has no edge.
+#[tactic(auto, using(crate::specs::Steady::stretching))]
 fn stretch(m: Mapping, x: u64, n: u64) -> u64
     ensures { result ≡ stretch m x n }
 {
@@ -25,11 +17,11 @@ fn stretch(m: Mapping, x: u64, n: u64) -> u64
         return n;
     }
     if x < m.virt {
-        return least(m.virt - x, n);
+        return (m.virt - x).min(n);
     }
     let past = x - m.virt;
     if past < m.size {
-        return least(m.size - past, n);
+        return (m.size - past).min(n);
     }
     n
 }
@@ -39,10 +31,8 @@ pub fn steady(lists: &Lists, world: u64, x: u64, n: u64) -> u64
     ensures { result ≡ steady (held lists.now world) x n }
 {
     let mut left = n;
-    let mut i = 0;
-    while i < MOST_MAPPINGS {
+    for i in 0..MOST_MAPPINGS {
         left = stretch(places::place_of(lists, world, i), x, left);
-        i += 1;
     }
     left
 }

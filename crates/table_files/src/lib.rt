@@ -14,9 +14,7 @@ pub type Numbers = [u64; MOST];
 pub fn load(numbers: &mut Numbers, bytes: &[u8])
     ensures { numbers.new ≡ laid numbers.old 0 (numbers_of bytes.now 32768) }
 {
-    let mut i: usize = 0;
-    while i < MOST {
+    for i in 0..MOST {
         numbers[i] = fip_entries::long_number(bytes, (8 * i) as u32);
-        i += 1;
     }
 }

@@ -4,11 +4,10 @@
 
 ghost use Rattle.std.specs.Prelude.{◌≤◌};
 
-use building::Built;
 use spelling::MOST_NUMBERS;
-use std::env::FillError;
 use std::io;
 use std::rt::Env;
+use tables_console::Fault;
 
 // A line on standard error.
 fn say(rt: &impl Eprint, line: &str) -> io::Result<()> {
@@ -19,24 +18,17 @@ fn say(rt: &impl Eprint, line: &str) -> io::Result<()> {
 fn room_of(n: u64) -> usize
     ensures { result ≤ 22528 }
 {
-    if (MOST_NUMBERS as u64) < n {
-        return MOST_NUMBERS;
-    }
-    n as usize
+    n.min(MOST_NUMBERS as u64) as usize
 }
 
 fn build(rt: &(impl Input + Print + Eprint), world: u64, room: usize) -> io::Result<()>
     requires { room ≤ 22528 }
 {
     let mut numbers = [0u64; MOST_NUMBERS];
-    let made = tables_console::make(rt, &mut numbers[0..room], world);
-    if !made.whole {
-        return say(rt, "the run could not be read to its end\n");
-    }
-    let built = made.built;
-    match built {
-        Built::NoRoom => say(rt, "88: the tables do not fit into so many numbers\n"),
-        Built::Tables(count) => {
+    match tables_console::make(rt, &mut numbers[..room], world) {
+        Err(Fault::Unread) => say(rt, "the run could not be read to its end\n"),
+        Err(Fault::NoRoom) => say(rt, "88: the tables do not fit into so many numbers\n"),
+        Ok(count) => {
             let mut bytes = [0u8; 180224];
             if !tables_console::tell(rt, &numbers, &mut bytes, count) {
                 return say(rt, "standard output: the tables could not be written\n");
@@ -46,12 +38,6 @@ fn build(rt: &(impl Input + Print + Eprint), world: u64, room: usize) -> io::Res
     }
 }
 
-// Whether the program was started with so many words behind its name, or more.
-fn has_word(rt: &impl Env, i: usize) -> bool {
-    let mut word = [0u8; 1];
-    !matches!(rt.arg(i, &mut word), Err(FillError::NotPresent))
-}
-
 fn main(rt: HostRuntime) -> io::Result<()> {
     let mut name = [0u8; 8];
     let n = rt.arg(1, &mut name).unwrap_or(0);
@@ -59,16 +45,20 @@ fn main(rt: HostRuntime) -> io::Result<()> {
     let mut digits = [0u8; 32];
     let d = rt.arg(2, &mut digits).unwrap_or(0);
     let count = arguments::count_of(&digits[..d]);
-    let is_plain = has_word(&rt, 1) && !has_word(&rt, 2);
-    let is_lent = has_word(&rt, 2) && !has_word(&rt, 3) && count.given;
-    if world == rules::ROOT || (!is_plain && !is_lent) {
-        return say(
+    let room = match (
+        arguments::has_word(&rt, 1),
+        arguments::has_word(&rt, 2),
+        arguments::has_word(&rt, 3),
+    ) {
+        (true, false, _) => Some(MOST_NUMBERS),
+        (_, true, false) => count.map(room_of),
+        _ => None,
+    };
+    match room {
+        Some(room) if world != rules::ROOT => build(&rt, world, room),
+        _ => say(
             &rt,
             "usage: tables secure|normal|realm [NUMBERS], with a run of frames on standard input\n",
-        );
+        ),
     }
-    if is_lent {
-        return build(&rt, world, room_of(count.n));
-    }
-    build(&rt, world, MOST_NUMBERS)
 }

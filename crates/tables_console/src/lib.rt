@@ -2,12 +2,11 @@
 // are written to standard output.
 #![tactic(auto)]
 
-ghost use Rattle.std.specs.Prelude.{◌≡◌, true};
+ghost use Rattle.std.specs.Prelude.{◌≡◌, Some, None, IfOk, IsErrOf};
 ghost use Rattle.tools.specs.Laid.{laid};
 ghost use Rattle.spelling.specs.Spelled.{spelled};
 ghost use Rattle.tables_console.specs.Made.{Makes};
 
-use building::Built;
 use spelling::{Bytes, Numbers};
 
 // How many tables the mappings of any run take at the most, and the bytes of one.
@@ -15,24 +14,22 @@ const MOST_TABLES: u64 = 44;
 
 const TABLE_BYTES: u64 = 4096;
 
-// What became of the build, and whether the input was read to its end, or to where it can be read no further.
+// Why no tables were made.
 #[derive(Clone, Copy)]
-pub struct Made {
-    pub built: Built,
-    pub whole: bool,
+pub enum Fault {
+    // the input could not be read to its end
+    Unread,
+    // the tables do not fit into so many numbers
+    NoRoom,
 }
 
-// Builds the tables of what the world has mapped after the run on standard input.
-pub fn make(rt: &(impl Input + Print), numbers: &mut [u64], world: u64) -> Made
-    ensures { result.whole ≡ true → Makes world numbers.old result.built numbers.new }
+// Builds the tables of what the world has mapped after the run on standard input, and says how many they are.
+pub fn make(rt: &(impl Input + Print), numbers: &mut [u64], world: u64) -> Result<u64, Fault>
+    ensures made { IfOk result (λ count. Makes world numbers.old (Some count) numbers.new) }
+    ensures not_made { IsErrOf result Fault.NoRoom → Makes world numbers.old None numbers.new }
 {
-    let run = console::run(rt, false);
-    let lists = run.lists;
-    let built = building::build(numbers, &lists, world);
-    Made {
-        built,
-        whole: run.whole,
-    }
+    let machine = console::run(rt, false).ok_or(Fault::Unread)?;
+    building::build(numbers, &machine.lists, world).ok_or(Fault::NoRoom)
 }
 
 // Writes the bytes of so many tables: whether they could be written.

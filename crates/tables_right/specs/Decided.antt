@@ -1,15 +1,14 @@
 -- By which mapping the addresses of one entry are decided, in a list whose mappings are well formed.
-use Rattle.std.specs.Prelude.{◌≡◌, List, eqb, leb}
+use Rattle.std.specs.Prelude.{◌≡◌, List, eqb, leb, None, Option, Some}
 use Rattle.std.proofs.Math.Path.{refl, sym}
 use Rattle.std.proofs.Common.{ap, ◌∙◌, arith}
 use Rattle.std.proofs.Math.Bool.{true, false}
-use Rattle.std.proofs.Math.Option.{Option, none, some}
 use Prim.Native.Nat.{ℕ, zero, suc, ◌+◌, ◌-◌, ◌*◌, ◌/◌, ◌%◌, ◌^◌, ◌≤◌, ◌<◌}
 use Rattle.std.specs.Int.Count.{count_trailing_zeros}
 use borrow.Author.Tests.{eqb-true, eq-eqb, leb-true, le-leb}
 use Rattle.rules.specs.Choice.{either, left_true, right_true, both_true, yes_or_no}
 use Rattle.rules.specs.Sizes.{page_size}
-use Rattle.tools.specs.Search.{all, all_at, all_if}
+use Rattle.tools.specs.Search.{all_at, all_if}
 use Rattle.pages.specs.Window.{Acceptable}
 use Rattle.pages.specs.declared.Window.{Window}
 use Rattle.ranges.specs.declared.Mapping.{Mapping}
@@ -48,24 +47,24 @@ same_self : (m : Mapping) → same m m ≡ true
 unfolding same
 same_self m = both_true _ _ (eq-eqb m.virt m.virt refl) (both_true _ _ (eq-eqb m.phys m.phys refl) (both_true _ _ (eq-eqb m.size m.size refl) (eq-eqb m.attr m.attr refl)))
 
-by_is : (m : Mapping) (d : Option Mapping) → is_by m d ≡ true → d ≡ some m
+by_is : (m : Mapping) (d : Option Mapping) → is_by m d ≡ true → d ≡ Some m
 unfolding is_by
-by_is m none e = let z : false ≡ true = e in absurd (yes_or_no false z refl)
-by_is m (some n) e = ap some (sym (same_is m n e))
+by_is m None e = let z : false ≡ true = e in absurd (yes_or_no false z refl)
+by_is m (Some n) e = ap Some (sym (same_is m n e))
 
-by_self : (m : Mapping) (d : Option Mapping) → d ≡ some m → is_by m d ≡ true
+by_self : (m : Mapping) (d : Option Mapping) → d ≡ Some m → is_by m d ≡ true
 unfolding is_by
 by_self m d e = rw e (same_self m)
 
 -- ---- which mapping decides
 module _ (w : Window) (l : List Mapping) (formed : Every (Formed w) l) where
-  pub decider_formed : (x : ℕ) (m : Mapping) → deciding l x ≡ some m → Formed w m
+  pub decider_formed : (x : ℕ) (m : Mapping) → deciding l x ≡ Some m → Formed w m
   decider_formed x m e = every_among (Formed w) l m formed (deciding_is l x m e).among
 
-  pub decider_low : (x : ℕ) (m : Mapping) → deciding l x ≡ some m → m.virt ≤ x
+  pub decider_low : (x : ℕ) (m : Mapping) → deciding l x ≡ Some m → m.virt ≤ x
   decider_low x m e = deciding_low l x m e
 
-  decider_high : (x : ℕ) (m : Mapping) → deciding l x ≡ some m → x < m.virt + m.size
+  decider_high : (x : ℕ) (m : Mapping) → deciding l x ≡ Some m → x < m.virt + m.size
   decider_high x m e = holds_high x m (deciding_is l x m e).passes
 
   -- all addresses of a page by one
@@ -75,12 +74,12 @@ module _ (w : Window) (l : List Mapping) (formed : Every (Formed w) l) where
       smallest_alike (holds x) (holds b) l (every_of (λ (m : Mapping). holds x m ≡ holds b m) l (λ m z. same_page w m (every_among (Formed w) l m formed z) b x a h u))
 
   -- none from 2^32 on
-  pub nobody_above : (x : ℕ) → 4294967296 ≤ x → deciding l x ≡ none
+  pub nobody_above : (x : ℕ) → 4294967296 ≤ x → deciding l x ≡ None
   nobody_above x h = go (deciding l x) refl
     where
-      go : (d : Option Mapping) → deciding l x ≡ d → d ≡ none
-      go none e = refl
-      go (some m) e = absurd (omega (arith, decider_high x m e, (decider_formed x m e).ends))
+      go : (d : Option Mapping) → deciding l x ≡ d → d ≡ None
+      go None e = refl
+      go (Some m) e = absurd (omega (arith, decider_high x m e, (decider_formed x m e).ends))
 
   -- ---- a page of a slot
   -- where page x lies in its slot
@@ -91,17 +90,17 @@ module _ (w : Window) (l : List Mapping) (formed : Every (Formed w) l) where
   cut_is b i h u = omega arith
 
   module _ (b : ℕ) (a : b % 2097152 ≡ 0) (h : b ≤ 549755813888) (m : Mapping) where
-    pub throughout_is : throughout l m b ≡ true → (x : ℕ) → b ≤ x → x < b + 2097152 → deciding l x ≡ some m
+    pub throughout_is : throughout l m b ≡ true → (x : ℕ) → b ≤ x → x < b + 2097152 → deciding l x ≡ Some m
     unfolding throughout decides
     throughout_is t x lo hi =
         let p = page_of b x lo hi in
         let i = (x - b) / 4096 in
         let y = b + i * 4096 in
         let e = by_is m _ (all_at (decides l m b) 0 512 i t (omega arith) p.1.1) in
-        let f : deciding l y ≡ some m = rw (cut_is b i h p.1.1) at e in
+        let f : deciding l y ≡ Some m = rw (cut_is b i h p.1.1) at e in
         on_page y x (omega arith) p.0 p.1.0 ∙ f
 
-    pub throughout_if : ((x : ℕ) → b ≤ x → x < b + 2097152 → deciding l x ≡ some m) → throughout l m b ≡ true
+    pub throughout_if : ((x : ℕ) → b ≤ x → x < b + 2097152 → deciding l x ≡ Some m) → throughout l m b ≡ true
     unfolding throughout decides
     throughout_if f =
         all_if (decides l m b) 0 512
@@ -110,7 +109,7 @@ module _ (w : Window) (l : List Mapping) (formed : Every (Formed w) l) where
 -- ---- where it leads
 module _ (w : Window) (acc : Acceptable w) (l : List Mapping) (formed : Every (Formed w) l) where
   -- the physical address is exact, and below 2^48
-  pub exact_physical : (x : ℕ) (m : Mapping) → deciding l x ≡ some m → (physical m x ≡ m.phys + (x - m.virt)) × (m.phys + (x - m.virt) < 281474976710656)
+  pub exact_physical : (x : ℕ) (m : Mapping) → deciding l x ≡ Some m → (physical m x ≡ m.phys + (x - m.virt)) × (m.phys + (x - m.virt) < 281474976710656)
   exact_physical x m e =
       let f = decider_formed w l formed x m e in
       let low = decider_low w l formed x m e in
@@ -121,9 +120,9 @@ module _ (w : Window) (acc : Acceptable w) (l : List Mapping) (formed : Every (F
   -- one mapping for all addresses of an entry, at a physical address that such an entry may have
   pub record One (k b x : ℕ) : Type 0 where
     pub alike : deciding l x ≡ deciding l b
-    pub starts : (m : Mapping) → deciding l b ≡ some m → physical m b % span k ≡ 0
+    pub starts : (m : Mapping) → deciding l b ≡ Some m → physical m b % span k ≡ 0
 
-  page_starts : (b : ℕ) (m : Mapping) → b % 4096 ≡ 0 → deciding l b ≡ some m → physical m b % 4096 ≡ 0
+  page_starts : (b : ℕ) (m : Mapping) → b % 4096 ≡ 0 → deciding l b ≡ Some m → physical m b % 4096 ≡ 0
   page_starts b m a e =
       let f = decider_formed w l formed b m e in
       let low = decider_low w l formed b m e in
@@ -135,20 +134,20 @@ module _ (w : Window) (acc : Acceptable w) (l : List Mapping) (formed : Every (F
   whole_one (suc zero) b x e h a lo hi = slot (deciding l b) refl e
     where
       slot : (d : Option Mapping) → deciding l b ≡ d → block_by l b d ≡ true → One 1 b x
-      slot none i f = let z : false ≡ true = f in absurd (yes_or_no false z refl)
-      slot (some m) i f =
+      slot None i f = let z : false ≡ true = f in absurd (yes_or_no false z refl)
+      slot (Some m) i f =
           let z = leb-true 21 (count_trailing_zeros 64 (physical m b)) (left_true (leb 21 (count_trailing_zeros 64 (physical m b))) _ f) in
           let t = throughout_is w l formed b a h m (right_true (leb 21 (count_trailing_zeros 64 (physical m b))) _ f) in
           record {
             alike = t x lo hi ∙ sym i;
-            starts = λ n j. let g : some n ≡ some m = sym j ∙ i in let v : n ≡ m = cc in rw v (zeros_slot (physical m b) z);
+            starts = λ n j. let g : Some n ≡ Some m = sym j ∙ i in let v : n ≡ m = cc in rw v (zeros_slot (physical m b) z);
           }
   whole_one (suc (suc k)) b x e h a lo hi = let z : false ≡ true = e in absurd (yes_or_no false z refl)
 
   -- ---- the paper's words for a block: one mapping decides throughout the slot, and the trailing zeros of both its addresses allow it
   pub record Block (b : ℕ) : Type 0 where
     pub by : Mapping
-    pub decides_it : (x : ℕ) → b ≤ x → x < b + 2097152 → deciding l x ≡ some by
+    pub decides_it : (x : ℕ) → b ≤ x → x < b + 2097152 → deciding l x ≡ Some by
     pub virtual_zeros : 21 ≤ count_trailing_zeros 64 b
     pub physical_zeros : 21 ≤ count_trailing_zeros 64 (by.phys + (b - by.virt))
 
@@ -158,8 +157,8 @@ module _ (w : Window) (acc : Acceptable w) (l : List Mapping) (formed : Every (F
     block_is = go (deciding l b) refl
       where
         go : (d : Option Mapping) → deciding l b ≡ d → block_by l b d ≡ true → Block b
-        go none i f = let z : false ≡ true = f in absurd (yes_or_no false z refl)
-        go (some m) i f = record {
+        go None i f = let z : false ≡ true = f in absurd (yes_or_no false z refl)
+        go (Some m) i f = record {
           by = m;
           decides_it = throughout_is w l formed b a h m (right_true (leb 21 (count_trailing_zeros 64 (physical m b))) _ f);
           virtual_zeros = slot_zeros b a;

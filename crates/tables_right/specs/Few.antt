@@ -1,5 +1,5 @@
 -- How many tables a list can need that a run reaches: 44, of 512 numbers each.
-use Rattle.std.specs.Prelude.{◌≡◌, refl, true, not, List, ℕ, ◌*◌, ◌≤◌, ◌<◌, length}
+use Rattle.std.specs.Prelude.{◌≡◌, Option, refl, true, not, List, ℕ, ◌*◌, ◌≤◌, ◌<◌, length}
 use Rattle.std.proofs.Common.{arith}
 use Rattle.rules.specs.Choice.{left_true}
 use Rattle.tools.specs.Count.{count}
@@ -15,7 +15,6 @@ use Rattle.slots.specs.Few.{few_slots}
 use Rattle.slots.specs.Ranges.{count_grows, count_most}
 use Rattle.layout.specs.Layout.{tables}
 use Rattle.building.specs.Built.{status}
-use Rattle.building.specs.declared.Built.{Built}
 use Rattle.tables_right.specs.Counted.{gib_touched, slot_touched, slot_paged, tables_counted}
 use Rattle.tables_right.specs.Theorems.{said, by_room}
 
@@ -47,4 +46,4 @@ module _ (w : Window) (o : List ℕ) (world : ℕ) (l : List Mapping) (ok : acce
 
   -- So who lends 22,528 numbers is never refused.
   pub never_refused : (numbers : List ℕ) → 22528 ≤ length numbers → status (said l numbers) ≡ 0
-  never_refused numbers h = by_room l numbers (λ (r : Built × List ℕ). status r.0 ≡ 0) (λ _. refl) (λ g. absurd (omega (arith, most_tables)))
+  never_refused numbers h = by_room l numbers (λ (r : Option ℕ × List ℕ). status r.0 ≡ 0) (λ _. refl) (λ g. absurd (omega (arith, most_tables)))

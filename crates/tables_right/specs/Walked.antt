@@ -1,11 +1,11 @@
 -- The walk of the tables leads where the list says.
-use Rattle.std.specs.Prelude.{◌≡◌, Bool, List}
+use Rattle.std.specs.Prelude.{◌≡◌, Bool, List, Option, None, Some}
 use Rattle.std.proofs.Math.Path.{refl}
 use Rattle.std.proofs.Common.{◌∙◌}
 use Rattle.std.proofs.Math.Bool.{true, false}
-use Rattle.std.proofs.Math.Option.{Option, none, some}
 use Prim.Native.Nat.{ℕ, zero, suc, ◌+◌, ◌-◌, ◌*◌, ◌/◌, ◌%◌, ◌≤◌, ◌<◌}
 use native.Mathlib.Omega.{arith}
+use Rattle.mapping.specs.declared.Lead.{Lead}
 use Rattle.rules.specs.Choice.{pick, by, pick_yes, pick_no, both_true, not_true, yes_or_no}
 use Rattle.pages.specs.Window.{Acceptable}
 use Rattle.pages.specs.declared.Window.{Window}
@@ -13,7 +13,6 @@ use Rattle.ranges.specs.declared.Mapping.{Mapping}
 use Rattle.mapping.specs.Mapping.{deciding, leading, lead_of, touched}
 use Rattle.mapping.specs.Entries.{Every}
 use Rattle.mapping.specs.Sound.{Formed}
-use Rattle.mapping.specs.declared.Lead.{Lead}
 use Rattle.descriptors.specs.Numbers.{span, table_number}
 use Rattle.descriptors.specs.Meaning.{meaning}
 use Rattle.walks.specs.Walk.{entry_for, led, descended}
@@ -86,7 +85,7 @@ module _ (w : Window) (acc : Acceptable w) (l : List Mapping) (formed : Every (F
   only_low (suc zero) b e = omega arith
   only_low (suc (suc k)) b e = let z : false ≡ true = e in absurd (yes_or_no false z refl)
 
-  module _ (k b x : ℕ) (deep : ℕ → Lead) (a : b % span k ≡ 0) (lo : b ≤ x) (hi : x < b + span k) where
+  module _ (k b x : ℕ) (deep : ℕ → Option Lead) (a : b % span k ≡ 0) (lo : b ≤ x) (hi : x < b + span k) where
     -- it says itself where the address leads
     leaf_right : b ≤ 549755813888 → whole l k b ≡ true → x % span k ≡ x - b → led deep (meaning k x (leaf k (lead_of l b))) ≡ lead_of l x
     unfolding lead_of leading led leaf
@@ -96,9 +95,9 @@ module _ (w : Window) (acc : Acceptable w) (l : List Mapping) (formed : Every (F
         o = whole_one w acc l formed k b x e h a lo hi
 
         by_mapping : (d : Option Mapping) → deciding l b ≡ d → led deep (meaning k x (leaf k (leading b (deciding l b)))) ≡ leading x (deciding l x)
-        by_mapping none i = rw (o.alike, i, nothing_means k x)
-        by_mapping (some m) i =
-            let j : deciding l x ≡ some m = o.alike ∙ i in
+        by_mapping None i = rw (o.alike, i, nothing_means k x)
+        by_mapping (Some m) i =
+            let j : deciding l x ≡ Some m = o.alike ∙ i in
             let p = exact_physical w acc l formed b m i in
             let q = exact_physical w acc l formed x m j in
             let y = decider_low w l formed b m i in

@@ -5,7 +5,6 @@
 
 ghost use Rattle.std.specs.Prelude.{◌<◌, ◌≤◌};
 
-use building::Built;
 use mapping::{Lead, Lists, Mapping};
 use rules::SECURE;
 use std::io;
@@ -14,6 +13,9 @@ use std::io;
 const LENT: usize = 22528;
 
 const ENTRIES: u64 = 512;
+
+// The tables that so many numbers hold.
+const MOST_TABLES: u64 = 44;
 
 const PAGE: u64 = 0x1000;
 
@@ -34,14 +36,12 @@ fn run_at(numbers: &[u64], at: u64, most: u64) -> u64
     ensures { (0 < result) × (result ≤ most) }
 {
     let first = walks::number_at(numbers, at);
-    let mut n = 1;
-    while n < most {
-        if walks::number_at(numbers, at + n) != std::num::wrapping_add_u64(first, n * PAGE) {
+    for n in 1..most {
+        if walks::number_at(numbers, at + n) != first.wrapping_add(n * PAGE) {
             return n;
         }
-        n += 1;
     }
-    n
+    most
 }
 
 // A run of entries, unless they are unused.
@@ -55,6 +55,7 @@ fn say_run(rt: &impl Print, table: u64, i: u64, number: u64, n: u64) -> io::Resu
 fn say_table(rt: &impl Print, numbers: &[u64], table: u64) -> io::Result<()>
     requires { table < 44 }
 {
+    // a while, since i goes on by whole runs
     let mut i = 0;
     while i < ENTRIES {
         let at = ENTRIES * table + i;
@@ -65,39 +66,38 @@ fn say_table(rt: &impl Print, numbers: &[u64], table: u64) -> io::Result<()>
     Ok(())
 }
 
-fn say_tables(rt: &impl Print, numbers: &[u64; LENT], count: u64) -> io::Result<()> {
-    let all: &[u64] = numbers;
-    let mut table = 0;
-    while table < 44 {
-        if count <= table {
-            return Ok(());
-        }
-        say_table(rt, all, table)?;
-        table += 1;
+fn say_tables(rt: &impl Print, numbers: &[u64], count: u64) -> io::Result<()> {
+    for table in 0..count.min(MOST_TABLES) {
+        say_table(rt, numbers, table)?;
     }
     Ok(())
 }
 
 // Where an address leads, and what may be done there.
 fn say_lead(rt: &impl Print, numbers: &[u64], address: u64) -> io::Result<()> {
-    let Lead::To { phys, attr } = walks::walk(numbers, address) else {
+    let Some(Lead { phys, attr }) = walks::walk(numbers, address) else {
         return Ok(());
     };
     println!(rt; "{address:08x} to {phys:08x} {attr:x}")
 }
 
 // A page, the edges of the first slots, the second GiB, where the widest list begins, and what lies a page behind 2^32.
-fn say_leads(rt: &impl Print, numbers: &[u64; LENT]) -> io::Result<()> {
-    let all: &[u64] = numbers;
-    say_lead(rt, all, PAGE + 8)?;
-    say_lead(rt, all, SLOT - 1)?;
-    say_lead(rt, all, SLOT)?;
-    say_lead(rt, all, SLOT + PAGE + 4)?;
-    say_lead(rt, all, 2 * SLOT)?;
-    say_lead(rt, all, 3 * SLOT)?;
-    say_lead(rt, all, ENTRIES * SLOT + 0x123456)?;
-    say_lead(rt, all, WIDEST)?;
-    say_lead(rt, all, 0x100000000 + PAGE + 8)
+fn say_leads(rt: &impl Print, numbers: &[u64]) -> io::Result<()> {
+    let addresses = [
+        PAGE + 8,
+        SLOT - 1,
+        SLOT,
+        SLOT + PAGE + 4,
+        2 * SLOT,
+        3 * SLOT,
+        ENTRIES * SLOT + 0x123456,
+        WIDEST,
+        0x100000000 + PAGE + 8,
+    ];
+    for address in addresses {
+        say_lead(rt, numbers, address)?;
+    }
+    Ok(())
 }
 
 // The tables of Secure's list, in so many numbers.
@@ -106,15 +106,12 @@ fn show(rt: &impl Print, name: &str, lists: &Lists, room: usize) -> io::Result<(
 {
     say(rt, name)?;
     let mut numbers = [0u64; LENT];
-    let built = building::build(&mut numbers[0..room], lists, SECURE);
-    match built {
-        Built::NoRoom => say(rt, "88\n"),
-        Built::Tables(count) => {
-            say_tables(rt, &numbers, count)?;
-            println!(rt; "{count:02x}")?;
-            say_leads(rt, &numbers)
-        }
-    }
+    let Some(count) = building::build(&mut numbers[..room], lists, SECURE) else {
+        return say(rt, "88\n");
+    };
+    say_tables(rt, &numbers, count)?;
+    println!(rt; "{count:02x}")?;
+    say_leads(rt, &numbers)
 }
 
 fn map(lists: &mut Lists, virt: u64, phys: u64, size: u64, attr: u64) {

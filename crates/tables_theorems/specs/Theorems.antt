@@ -1,7 +1,9 @@
 -- The tables of a world's mappings, after any run: they lead every address where the monitor says it leads.
-use Rattle.std.specs.Prelude.{◌≡◌, true, List, [], ℕ, ◌≤◌, length}
+use Rattle.std.specs.Prelude.{◌≡◌, true, List, [], ℕ, ◌≤◌, length, None, Option}
 use Rattle.std.proofs.Math.Path.{refl, ap}
 use Rattle.std.proofs.Common.{◌∙◌, arith}
+use Rattle.mapping.specs.Leads.{To}
+use Rattle.mapping.specs.declared.Lead.{Lead}
 use Rattle.rules.specs.Choice.{pick, either}
 use Rattle.rules.specs.declared.Reason.TheVariants as Reason
 use Rattle.pages.specs.Window.{acceptable, accepted}
@@ -10,8 +12,6 @@ use Rattle.mapping.specs.Lists.{held_unmapped}
 use Rattle.mapping.specs.Mapping.{lead_of}
 use Rattle.mapping.specs.Sound.{Sound, sound_none}
 use Rattle.ranges.specs.declared.Mapping.{Mapping}
-use Rattle.mapping.specs.declared.Lead.{Lead}
-use Rattle.mapping.specs.declared.Lead.TheVariants.{To, Nowhere}
 use Rattle.identifiers.specs.Identifier.{argument}
 use Rattle.judgements.specs.Judge.{HandlerSight, args_of, leading, board, row_in, by_row, by_number, by_handler, found, called_by}
 use Rattle.judgements.specs.Asked.{key}
@@ -86,7 +86,7 @@ module _ (run : Events) (m : Machine) (given : List Reply) (f : Follows first ru
 
     module _ (numbers : List ℕ) (fits : status (said (mapped m (caller m core e.1)) numbers) ≡ 0) where
       -- where the walk of the caller's tables leads the address that the call asks about
-      abbrev pub walks_to : Lead
+      abbrev pub walks_to : Option Lead
       walks_to = walked (left (mapped m (caller m core e.1)) numbers) (arg m core e.1 1)
 
       by_walk : judged_in (state_of m) core e.1 ≡ leading walks_to
@@ -100,7 +100,7 @@ module _ (run : Events) (m : Machine) (given : List Reply) (f : Follows first ru
           (heeded.results 0 (rw a (omega arith)) ∙ rw a, (heeded.results 1 (rw a (omega arith)) ∙ rw a, heeded.results 2 (rw a (omega arith)) ∙ rw a))
 
       -- and where it leads nowhere, the call is refused with -14.
-      pub walk_refused : walks_to ≡ Nowhere → last ≡ denied m core e.1 14
+      pub walk_refused : walks_to ≡ None → last ≡ denied m core e.1 14
       unfolding leading
       walk_refused w =
           let a : answer_in (state_of m) core e.1 ≡ No Reason.Nowhere = ap (λ (j : Judged). j.answer) by_walk ∙ rw w in

@@ -1,7 +1,7 @@
 -- How many accepted calls each world made, by their answers: a table of counts, behind them how many were counted in all, and whether one came too many.
-use Rattle.std.specs.Prelude.{◌≡◌, Bool, true, false, ◌&&◌, List, ℕ, ◌+◌, ◌*◌, ◌≤◌, ◌<◌, ltb, leb, replicate}
-use Rattle.std.proofs.Math.Path.{refl}
-use Rattle.std.proofs.Common.{sym, arith, lt-ltb, le-ltb, le-leb}
+use Rattle.std.specs.Prelude.{◌≡◌, Bool, ◌&&◌, List, ℕ, ◌+◌, ◌*◌, ◌≤◌, ◌<◌, ltb, leb, replicate}
+use Rattle.std.proofs.Math.Path.{refl, ap}
+use Rattle.std.proofs.Common.{arith, lt-ltb, le-ltb, le-leb}
 use Rattle.std.proofs.lemmas.Bool.{lt-leb}
 use Rattle.rules.specs.Choice.{pick, picked, passed, both_true, left_false, right_false}
 use Rattle.rules.specs.Sizes.{worlds}
@@ -66,13 +66,8 @@ module _ (n : ℕ) where
 pub ruleset mores = (more_one, more_none)
 
 module _ (t : List ℕ) (n : ℕ) (is : n ≡ count_at t 317) where
-  pub over_yes : 0 < n → true ≡ over t
-  over_yes h = sym (lt-ltb 0 (read size t 317) (omega arith))
-
-  pub over_no : n ≤ 0 → false ≡ over t
-  over_no h = sym (le-ltb 0 (read size t 317) (omega arith))
-
-pub ruleset overs = (over_yes, over_no)
+  pub over_is : ltb 0 n ≡ over t
+  over_is = ap (ltb 0) is
 
 module _ (t : List ℕ) (world x n : ℕ) (is : n ≡ total t) where
   pub notes_over : (t' : List ℕ) → most ≤ n → t' ≡ write size t (places + 1) 1 → t' ≡ noted t world x

@@ -33,6 +33,7 @@ pub const TOTAL: u64 = WORLDS * ROWS;
 
 const OVER: u64 = TOTAL + 1;
 
+// One row of numbers and no struct: `count_at`, `total` and `over` read a list, and the theorems on a report speak of it.
 pub type Tally = [u64; 318];
 
 // Nothing counted.
@@ -120,10 +121,7 @@ pub fn answer_at(r: u64) -> u64
 pub fn is_over(t: &Tally) -> bool
     ensures { result ≡ over t.now }
 {
-    if 0 < count_at(t, OVER) {
-        return true;
-    }
-    false
+    0 < count_at(t, OVER)
 }
 
 // A call more, of a world, with its answer.
@@ -136,10 +134,7 @@ pub fn note(t: &mut Tally, world: u64, x: u64)
         return;
     }
     let row = row_of(x);
-    if WORLDS <= world {
-        return;
-    }
-    if ROWS <= row {
+    if WORLDS <= world || ROWS <= row {
         return;
     }
     let i = world * ROWS + row;

@@ -27,18 +27,16 @@ fn put_head(out: &mut [u8], at: usize, core: u64, world: u64) -> usize
 pub fn put_status(out: &mut [u8], at: usize, s: Status) -> usize
     ensures { (result, out.new) ≡ put out.old at (status_text s) }
 {
-    if out.len() < STATUS {
-        return at;
-    }
-    if out.len() - STATUS < at {
+    if out.len() < STATUS || out.len() - STATUS < at {
         return at;
     }
     let a = hex_write::put_byte(out, at, 0xa0);
-    let b = hex_write::put_byte(out, a, parsing::byte_of(s));
+    let b = hex_write::put_byte(out, a, u64::from(s));
     hex_write::put_end(out, b)
 }
 
 // The answer to an accepted call: a1, the core, the world that runs there and its x0 to x3; put or not in the same way.
+// Six numbers and no struct: `call_text` and the theorems on it speak of each.
 pub fn put_call(
     out: &mut [u8],
     at: usize,
@@ -51,10 +49,7 @@ pub fn put_call(
 ) -> usize
     ensures { (result, out.new) ≡ put out.old at (call_text core world x0 x1 x2 x3) }
 {
-    if out.len() < LONGEST {
-        return at;
-    }
-    if out.len() - LONGEST < at {
+    if out.len() < LONGEST || out.len() - LONGEST < at {
         return at;
     }
     let a = put_head(out, at, core, world);

@@ -1,12 +1,3 @@
-// Tools that stores, lines and packages share: searches and counts, tables that are read and written in bounds, and bytes laid
-// one behind another, in specs/; and a byte read as a number.
+// Tools that stores, lines and packages share, all of them definitions and laws: searches and counts, tables that are read and
+// written in bounds, and bytes laid one behind another, in specs/.
 #![tactic(auto)]
-
-ghost use Rattle.std.specs.Prelude.{◌≡◌};
-
-// The number in a byte.
-pub fn wide(x: u8) -> u64
-    ensures { result ≡ x }
-{
-    x as u64
-}

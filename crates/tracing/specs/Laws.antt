@@ -1,6 +1,8 @@
 -- How the code meets the definitions of Traced.
-use Rattle.std.specs.Prelude.{◌≡◌, refl, List, [], ℕ}
+use Rattle.std.specs.Prelude.{◌≡◌, refl, List, [], ℕ, None, Option}
 use Rattle.std.proofs.Common.{ap}
+use Rattle.spans.specs.Named.{Pages}
+use Rattle.spans.specs.declared.Span.{Span}
 use Rattle.rules.specs.Choice.{pick}
 use Rattle.pages.specs.declared.Window.{Window}
 use Rattle.parsing.specs.Frame.{is_call}
@@ -13,24 +15,22 @@ use Rattle.outcomes.specs.declared.Came.{Came}
 use Rattle.origins.specs.Origins.{marked}
 use Rattle.origins.specs.Lines.{lines_in, one_more}
 use Rattle.spans.specs.Spans.{named}
-use Rattle.spans.specs.declared.Span.{Span}
-use Rattle.spans.specs.declared.Span.TheVariants.{Pages, NoPages}
 use Rattle.tracing.specs.Traced.{Kept, noted, after_line, traced_line}
 
 -- ---- the pages of a span
-module _ (t : List ℕ) (line : ℕ) (s : Span) where
+module _ (t : List ℕ) (line : ℕ) (s : Option Span) where
   pub notes_run : (lowest count : ℕ) (t' : List ℕ) → s ≡ Pages lowest count → t' ≡ marked t lowest count line → t' ≡ noted t line s
   unfolding noted
   notes_run lowest count t' e h = rw e h
 
-  pub notes_none : s ≡ NoPages → t ≡ noted t line s
+  pub notes_none : s ≡ None → t ≡ noted t line s
   unfolding noted
   notes_none e = rw e
 
 pub ruleset notes = (notes_run, notes_none)
 
 -- ---- a line
-pub line_traced : (m m' : Machine) (o o' l l' : List ℕ) (f : Frame) (xs : List ℕ) (w : Window) (c : Came) (s : Span) (n : ℕ)
+pub line_traced : (m m' : Machine) (o o' l l' : List ℕ) (f : Frame) (xs : List ℕ) (w : Window) (c : Came) (s : Option Span) (n : ℕ)
     → w ≡ window m.setup → (m', c) ≡ taken m f xs → l' ≡ one_more l → n ≡ lines_in l' → s ≡ named w f xs c → o' ≡ noted o n s
     → ((m', (o', l')), c) ≡ traced_line (m, (o, l)) (f, xs)
 unfolding traced_line after_line

@@ -1,5 +1,7 @@
 -- A run with its lines counted, and for each page the number of the line that named its owner.
-use Rattle.std.specs.Prelude.{List, ℕ}
+use Rattle.std.specs.Prelude.{List, ℕ, None, Option, Some}
+use Rattle.spans.specs.Named.{Pages}
+use Rattle.spans.specs.declared.Span.{Span}
 use Rattle.parsing.specs.declared.Frame.{Frame}
 use Rattle.setup.specs.Table.{window}
 use Rattle.frames.specs.Frames.{Machine, first, framed}
@@ -8,8 +10,6 @@ use Rattle.outcomes.specs.declared.Came.{Came}
 use Rattle.origins.specs.Origins.{none, marked}
 use Rattle.origins.specs.Lines.{no_line, lines_in, one_more}
 use Rattle.spans.specs.Spans.{named}
-use Rattle.spans.specs.declared.Span.{Span}
-use Rattle.spans.specs.declared.Span.TheVariants.{Pages, NoPages}
 
 -- what is kept from line to line: the machine, the table of origins, and how many lines came
 abbrev pub Kept : Type 0
@@ -20,9 +20,9 @@ abbrev pub start : Kept
 start = (first, (none, no_line))
 
 -- a line is noted for the pages that it names owners for
-unfoldable pub noted : List ℕ → ℕ → Span → List ℕ
-noted t line (Pages lowest count) = marked t lowest count line
-noted t line NoPages = t
+unfoldable pub noted : List ℕ → ℕ → Option Span → List ℕ
+noted t line (Some s) = marked t s.first s.count line
+noted t line None = t
 
 -- what is kept after a line
 unfoldable pub after_line : Kept → Frame × List ℕ → Kept

@@ -1,9 +1,10 @@
 -- One line: two machines that are alike stay so, and answer alike.
-use Rattle.std.specs.Prelude.{◌≡◌, Bool, List, eqb, length}
+use Rattle.std.specs.Prelude.{◌≡◌, Bool, List, eqb, length, Result}
 use Rattle.std.proofs.Math.Path.{refl, subst}
 use Rattle.std.proofs.Common.{sym, arith}
 use Prim.Native.Nat.{ℕ, ◌<◌}
 use borrow.Author.Tests.{eqb-true, eqb-false, leb-false, not-false}
+use Rattle.calls.specs.declared.Made.{Made}
 use Rattle.rules.specs.Choice.{either, chosen_two}
 use Rattle.rules.specs.Sizes.{normal, realm, most_cores}
 use Rattle.registers.specs.Registers.{saved}
@@ -24,7 +25,6 @@ use Rattle.setup.specs.Table.{ready, ended, cores, over}
 use Rattle.setup.specs.Statuses.{ruled_by, ruled_two}
 use Rattle.showing.specs.Showing.{shown_alike}
 use Rattle.calling.specs.Calling.{trying, shown_in, replied, calling}
-use Rattle.calling.specs.declared.Tried.{Tried}
 use Rattle.arriving.specs.Arriving.{arriving}
 use Rattle.frames.specs.Frames.{Machine, state_of, framed, with_state, with_core_tables}
 use Rattle.guarantees.specs.Runs.{Event, next, reply, Taken}
@@ -62,7 +62,7 @@ module _ (m : Machine) (core : ℕ) (xs : List ℕ) (fit : Fit m) (by_realm : ru
   pub own_call : Alike (framed m (Frame.Call core) xs).0 m
   unfolding framed calling trying
   own_call =
-      ruled_by (λ (o : (List ℕ × State) × Tried). Alike (with_state m (o.0, replied core o.0.1 o.1)).0 m) _ _ _ _ _
+      ruled_by (λ (o : (List ℕ × State) × Result Made Status). Alike (with_state m (o.0, replied core o.0.1 o.1)).0 m) _ _ _ _ _
       (λ why d. alike_same m)
       (λ a b c.
       let r = fit.right (not-false (ready m.setup) a) in
@@ -103,7 +103,7 @@ module _ (n : Machine) (r k : List ℕ) (numbers : SameNumbers r n.saved) (mappi
       × (length xs ≡ 8 → (framed other (Frame.Call core) xs).1 ≡ (framed n (Frame.Call core) xs).1)
   unfolding framed calling trying
   call_both core xs same =
-      ruled_two (λ (o u : (List ℕ × State) × Tried).
+      ruled_two (λ (o u : (List ℕ × State) × Result Made Status).
       Alike (with_state other (o.0, replied core o.0.1 o.1)).0 (with_state n (u.0, replied core u.0.1 u.1)).0
       × (length xs ≡ 8 → replied core o.0.1 o.1 ≡ replied core u.0.1 u.1)) _ _ _ _ _ _ _
       (λ why. (alike, λ l. refl))

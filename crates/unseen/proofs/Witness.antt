@@ -2,7 +2,6 @@
 use Rattle.std.specs.Prelude.{refl}
 use Rattle.std.proofs.Common.{inl}
 use Rattle.rules.specs.Choice.{pick}
-use Rattle.rules.specs.declared.Entered.TheVariants as Entered
 use Rattle.identifiers.specs.Identifier.{identifier_of, key_of}
 use Rattle.parsing.specs.declared.Frame.TheVariants as Frame
 use Rattle.guarantees.specs.Runs.{next}

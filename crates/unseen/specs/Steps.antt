@@ -1,8 +1,10 @@
 -- One line: two machines that are alike stay so, and answer alike.
-use Rattle.std.specs.Prelude.{◌≡◌, false, not, List, leb}
+use Rattle.std.specs.Prelude.{◌≡◌, false, not, List, leb, Result}
 use Rattle.std.proofs.Math.Path.{refl, subst}
 use Rattle.std.proofs.Common.{sym, ap, ◌∙◌}
 use Prim.Native.Nat.{ℕ}
+use Rattle.parsing.specs.declared.Status.{Status}
+use Rattle.calls.specs.declared.Made.{Made}
 use Rattle.rules.specs.Sizes.{realm}
 use Rattle.rules.specs.declared.Reason.{Reason}
 use Rattle.registers.specs.Registers.{saved}
@@ -18,7 +20,6 @@ use Rattle.parsing.specs.declared.Frame.TheVariants as Frame
 use Rattle.setup.specs.Table.{ready, cores}
 use Rattle.setup.specs.Statuses.{ruled_done}
 use Rattle.calling.specs.Calling.{trying, replied, calling}
-use Rattle.calling.specs.declared.Tried.{Tried}
 use Rattle.frames.specs.Frames.{Machine, machine, state_of, framed}
 use Rattle.frames.specs.Stays.{shown_not_told}
 use Rattle.guarantees.specs.Runs.{Event, next, reply, Taken}
@@ -77,7 +78,7 @@ pub call_taken : (m : Machine) (core : ℕ) (xs : List ℕ) → not (ready m.set
     → Taken (framed m (Frame.Call core) xs).1
 unfolding framed calling trying
 call_taken m core xs a b c why h =
-    shown_not_told core _ _ _ why (ap (λ (o : (List ℕ × State) × Tried). replied core o.0.1 o.1) (ruled_done _ _ _ _ _ _ a b c refl) ∙ h)
+    shown_not_told core _ _ _ why (ap (λ (o : (List ℕ × State) × Result Made Status). replied core o.0.1 o.1) (ruled_done _ _ _ _ _ _ a b c refl) ∙ h)
 
 -- ---- a line of both, met by a machine and by one that is alike
 -- a machine with other numbers and other mappings

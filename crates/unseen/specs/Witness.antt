@@ -1,13 +1,11 @@
 -- There are such runs: a board is set up, and Normal hands core 0 over to Realm; in the other run Realm then asks to map a page; Realm finishes in both. A pair in which the mapping is granted is run by the programs `unseen_without_run` and `unseen_with_run`.
-use Rattle.std.specs.Prelude.{◌≡◌, refl, List, [], ◌∷◌}
+use Rattle.std.specs.Prelude.{◌≡◌, refl, List, [], ◌∷◌, Ok, Some}
 use Rattle.std.proofs.Common.{sym, ap, subst, ◌∙◌, ⊎_elim, arith}
 use Rattle.rules.specs.Choice.{pick}
 use Rattle.rules.specs.Tests.{sieve}
-use Rattle.rules.specs.declared.Entered.TheVariants as Entered
 use Rattle.identifiers.specs.Identifier.{identifier_of, parts, key_of, admitted}
 use Rattle.ledger.specs.Ledger.{empty, empty_proper, empty_handler, handler, entered, recorded}
 use Rattle.ledger.proofs.Ledger.{accepted_where, covered}
-use Rattle.ledger.specs.declared.Lookup.TheVariants.{Handler}
 use Rattle.registers.specs.Registers.{zeros}
 use Rattle.cores.specs.Power.{is_on}
 use Rattle.cores.specs.Cores.{first_powers, first_turns, first_power_zero}
@@ -51,14 +49,14 @@ both = common hand_over ∷ other map_one ∷ common finish ∷ []
 abbrev pub start : Machine
 start = ran first set_up
 
-entry_accepted : entered empty 4 4 1 2 ≡ (Entered.Accepted, recorded empty 4 4 1 2)
+entry_accepted : entered empty 4 4 1 2 ≡ ((Ok tt), recorded empty 4 4 1 2)
 entry_accepted = accepted_where empty 4 4 1 2 (record { order = omega arith; owners = omega arith; kinds = omega arith; handlers = omega arith }) (λ o h l. empty_handler 1 o)
 
 start_is : start ≡ machine (fixed unset 0x80000000 4 1) unnamed (recorded empty 4 4 1 2) (given unowned 0 4 0) zeros first_powers first_turns unmapped
 unfolding ran framed sited entering untimely ruled fits acceptable sieve pick
 start_is = rw (unset_ready, fixed_ready, fixed_ended, unset_ended, entry_accepted)
 
-reaches : handler start.ledger 1 4 ≡ Handler 2
+reaches : handler start.ledger 1 4 ≡ Some 2
 reaches =
     ap (λ (m : Machine). handler m.ledger 1 4) start_is
     ∙ rw entry_accepted at (covered empty 4 4 1 2 empty_proper (rw entry_accepted) 4 (omega arith) (omega arith))

@@ -3,12 +3,10 @@
 
 use mapping::Lists;
 use rules::ROOT;
-use std::env::FillError;
 use std::io;
 use std::io::Error;
 use std::rt::{Env, Files};
-use table_files::Numbers;
-use vetting::Vetted;
+use vetting::{Fault, Refusal};
 
 // One byte more than the numbers have at most, so that a longer file is seen to be one.
 const SPACE: usize = 8 * table_files::MOST + 1;
@@ -26,7 +24,8 @@ fn say(rt: &impl Eprint, line: &str) -> io::Result<()> {
     eprint!(rt; "{line}")
 }
 
-// What failed, a colon, and the system's words for the fault.
+// What failed, a colon, and the system's words for the fault. It stands in fip and in vet: in a library it would need a promise, and of
+// what is written to a handle there is none.
 fn fail(rt: &(impl Eprint + Alloc), what: &str, e: Error) -> io::Result<()> {
     let text = format!(in rt.alloc(); "{e}")?;
     match text.split_once(" (os error ") {
@@ -36,45 +35,45 @@ fn fail(rt: &(impl Eprint + Alloc), what: &str, e: Error) -> io::Result<()> {
 }
 
 // The rule that was broken.
-fn rule(rt: &impl Eprint, status: u64) -> io::Result<()> {
-    match status {
-        vetting::TABLE_OUTSIDE => say(rt, "a table does not lie wholly in the numbers\n"),
-        vetting::RESERVED => say(
-            rt,
-            "a reserved descriptor: bits 1 to 0, bit 10 clear, or a set bit with no meaning\n",
-        ),
-        vetting::TABLE_AGAIN => say(rt, "a table is reached twice\n"),
-        _ => say(rt, "the list answers this address otherwise\n"),
+fn rule(fault: Fault) -> &'static str {
+    match fault {
+        Fault::TableOutside => "a table does not lie wholly in the numbers",
+        Fault::Reserved => {
+            "a reserved descriptor: bits 1 to 0, bit 10 clear, or a set bit with no meaning"
+        }
+        Fault::TableAgain => "a table is reached twice",
+        Fault::Otherwise => "the list answers this address otherwise",
     }
 }
 
 // The status, the virtual address and the rule.
-fn refuse(rt: &impl Eprint, status: u64, at: u64) -> io::Result<()> {
-    eprint!(rt; "{status:02x} {at:08x}: ")?;
-    rule(rt, status)
+fn refuse(rt: &impl Eprint, refusal: Refusal) -> io::Result<()> {
+    let Refusal { fault, at } = refusal;
+    let status = u64::from(fault);
+    let broken = rule(fault);
+    eprintln!(rt; "{status:02x} {at:08x}: {broken}")
 }
 
-fn tell(rt: &(impl Print + Eprint + Alloc), v: Vetted) -> io::Result<()> {
-    match v {
-        Vetted::Accepted => match rt.write_all(b"accepted\n") {
+fn tell(rt: &(impl Print + Eprint + Alloc), vetted: Result<(), Refusal>) -> io::Result<()> {
+    match vetted {
+        Ok(()) => match rt.write_all(b"accepted\n") {
             Ok(()) => Ok(()),
             Err(e) => fail(rt, "standard output", e),
         },
-        Vetted::Refused { status, at } => refuse(rt, status, at),
+        Err(refusal) => refuse(rt, refusal),
     }
 }
 
 // Vets the first n numbers.
 fn vet_first(
     rt: &(impl Print + Eprint + Alloc),
-    numbers: &Numbers,
+    numbers: &[u64],
     n: usize,
     lists: &Lists,
     world: u64,
 ) -> io::Result<()> {
-    let all: &[u64] = numbers;
-    if n <= all.len() {
-        tell(rt, vetting::vet(&all[0..n], lists, world))?;
+    if let Some(first) = numbers.get(..n) {
+        tell(rt, vetting::vet(first, lists, world))?;
     }
     Ok(())
 }
@@ -86,14 +85,12 @@ fn judge(
     n: usize,
     world: u64,
 ) -> io::Result<()> {
-    let run = console::run(rt, false);
-    if !run.whole {
+    let Some(machine) = console::run(rt, false) else {
         return say(rt, "vet: the run could not be read to its end\n");
-    }
+    };
     let mut numbers = [0u64; table_files::MOST];
     table_files::load(&mut numbers, bytes);
-    let lists = run.lists;
-    vet_first(rt, &numbers, n, &lists, world)
+    vet_first(rt, &numbers, n, &machine.lists, world)
 }
 
 // A file is judged if it is a whole number of numbers, and not too many of them.
@@ -122,17 +119,11 @@ fn vet_file(
     judge(rt, &bytes[..n], n / 8, world)
 }
 
-// Whether the program was started with so many words behind its name, or more.
-fn has_word(rt: &impl Env, i: usize) -> bool {
-    let mut word = [0u8; 1];
-    !matches!(rt.arg(i, &mut word), Err(FillError::NotPresent))
-}
-
 fn main(rt: HostRuntime) -> io::Result<()> {
     let mut word = [0u8; 8];
     let w = rt.arg(1, &mut word).unwrap_or(0);
     let world = arguments::world_of(&word[..w]);
-    if !has_word(&rt, 2) || has_word(&rt, 3) || world == ROOT {
+    if !arguments::has_word(&rt, 2) || arguments::has_word(&rt, 3) || world == ROOT {
         return say(
             &rt,
             "usage: vet WORLD TABLES, where WORLD is secure, normal or realm; the run comes on standard input\n",

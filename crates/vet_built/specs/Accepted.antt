@@ -17,7 +17,7 @@ use Rattle.layout.proofs.Laws.{length_tree, few_tables}
 use Rattle.building.specs.Built.{status}
 use Rattle.tables_right.specs.Theorems.{said, left, refused_where, length_stays, tables_stand, leads_alike}
 use Rattle.vetting.specs.Pass.{vetted}
-use Rattle.vetting.specs.declared.Vetted.TheVariants.{Accepted}
+use Rattle.vetting.specs.Outcome.{Accepted}
 use Rattle.vet_theorems.specs.Tree.{Reached, Before, same_place}
 use Rattle.vet_theorems.specs.Statements.{Sane, accepted_if}
 use Rattle.vet_built.specs.Ascending.{Good, Here, Region, some_tables, next_within, next_more, all_good, row_later, ascending}

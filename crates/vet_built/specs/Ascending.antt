@@ -1,5 +1,5 @@
 -- Of the entries that are reached in tables that were built, none is reserved, and those that lead to tables lead to ascending ones.
-use Rattle.std.specs.Prelude.{◌≡◌, true, false, List, ◌⊎◌, ltb}
+use Rattle.std.specs.Prelude.{◌≡◌, true, false, List, ltb}
 use Rattle.std.proofs.Common.{sym, ap, ◌∙◌, eq-or-lt_of_le, mul-le-mul_right, suc-mul, ltb-true, ltb-false}
 use Rattle.std.proofs.Math.Logic.{⊎_elim}
 use Prim.Native.Nat.{ℕ, zero, suc, ◌+◌, ◌*◌, ◌%◌, ◌≤◌, ◌<◌}

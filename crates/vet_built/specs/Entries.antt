@@ -1,10 +1,9 @@
 -- What stands in a table that was built: numbers that are not reserved, and the tables below, one behind the other.
-use Rattle.std.specs.Prelude.{◌≡◌, List, ◌⊎◌, ltb}
+use Rattle.std.specs.Prelude.{◌≡◌, List, ◌⊎◌, ltb, None, Option, Some}
 use Rattle.std.proofs.Math.Path.{refl}
 use Rattle.std.proofs.Common.{◌∙◌}
 use Rattle.std.proofs.Math.Bool.{true, false}
 use Rattle.std.proofs.Math.Logic.{inl, inr}
-use Rattle.std.proofs.Math.Option.{Option, none, some}
 use Prim.Native.Nat.{ℕ, zero, suc, ◌+◌, ◌*◌, ◌/◌, ◌%◌, ◌≤◌, ◌<◌}
 use native.Mathlib.Omega.{arith}
 use Rattle.rules.specs.Choice.{either, pick_yes, pick_no, both_true, right_false, not_true, yes_or_no}
@@ -40,10 +39,10 @@ zero_plain (suc k) = record { leaf = right_false (ltb 0 (suc k)) false refl; pla
 -- what leads an address on is one
 leaf_plain : (k e x p a : ℕ) → meaning k x e ≡ Leaf p a → Plain k e
 leaf_plain k e x p a =
-    means_two k e x x (λ (d c : Descriptor). d ≡ Leaf p a → Plain k e) (λ h. absurd (none h)) (λ t v h. absurd (table _ h)) (λ t v h. record { leaf = t; plain = v })
+    means_two k e x x (λ (d c : Descriptor). d ≡ Leaf p a → Plain k e) (λ h. absurd (None h)) (λ t v h. absurd (table _ h)) (λ t v h. record { leaf = t; plain = v })
   where
-    none : Nothing ≡ Leaf p a → ⊥
-    none h = let z : ◌≡◌ {A = ℕ} 0 1 = cc in omega arith
+    None : Nothing ≡ Leaf p a → ⊥
+    None h = let z : ◌≡◌ {A = ℕ} 0 1 = cc in omega arith
 
     table : (u : ℕ) → Table u ≡ Leaf p a → ⊥
     table u h = let z : ◌≡◌ {A = ℕ} 0 1 = cc in omega arith
@@ -61,8 +60,8 @@ module _ (w : Window) (acc : Acceptable w) (l : List Mapping) (formed : Every (F
   whole_plain k b h a s e = go (deciding l b) refl
     where
       go : (d : Option Mapping) → deciding l b ≡ d → Plain k (leaf k (leading b d))
-      go none i = zero_plain k
-      go (some m) i =
+      go None i = zero_plain k
+      go (Some m) i =
           let o = whole_one w acc l formed k b b e h a (omega arith) (omega arith) in
           let p = exact_physical w acc l formed b m i in
           leaf_plain k (leaf_number k (physical m b) m.attr) 0 _ _

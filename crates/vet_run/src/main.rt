@@ -12,15 +12,12 @@ use mapping::{Lists, Mapping};
 use rules::NORMAL;
 use std::io;
 use table_files::{MOST, Numbers};
-use vetting::Vetted;
+use vetting::Refusal;
 
 // The last four numbers, the one that is being read, how many are lent, and whether the rest of the line is a name.
 #[derive(Clone, Copy)]
 struct Desk {
-    a: u64,
-    b: u64,
-    c: u64,
-    d: u64,
+    last: [u64; 4],
     value: u64,
     lent: u64,
     named: bool,
@@ -30,19 +27,20 @@ fn say(rt: &impl Print, text: &[u8]) -> io::Result<()> {
     rt.write_all(text)
 }
 
-fn tell(rt: &impl Print, v: Vetted) -> io::Result<()> {
-    match v {
-        Vetted::Accepted => say(rt, b"accepted"),
-        Vetted::Refused { status, at } => print!(rt; "{status:02x} {at:08x}"),
+fn tell(rt: &impl Print, vetted: Result<(), Refusal>) -> io::Result<()> {
+    match vetted {
+        Ok(()) => say(rt, b"accepted"),
+        Err(Refusal { fault, at }) => {
+            let status = u64::from(fault);
+            print!(rt; "{status:02x} {at:08x}")
+        }
     }
 }
 
 // The first numbers against what Normal has mapped.
-fn vet_first(rt: &impl Print, numbers: &Numbers, lent: u64, lists: &Lists) -> io::Result<()> {
-    let all: &[u64] = numbers;
-    let n = lent as usize;
-    if n <= all.len() {
-        tell(rt, vetting::vet(&all[0..n], lists, NORMAL))?;
+fn vet_first(rt: &impl Print, numbers: &[u64], lent: u64, lists: &Lists) -> io::Result<()> {
+    if let Some(first) = numbers.get(..lent as usize) {
+        tell(rt, vetting::vet(first, lists, NORMAL))?;
     }
     Ok(())
 }
@@ -54,92 +52,82 @@ fn put(numbers: &mut Numbers, at: u64, v: u64) {
     }
 }
 
-// A digit, or the space behind a number.
-fn read(desk: Desk, sign: u8) -> Desk {
-    let mut next = desk;
-    let d = tools::wide(hex_digits::digit(sign)) % 32;
-    if d < 16 {
-        next.value = desk.value % 0x1000000000000000 * 16 + d;
+impl Desk {
+    // A digit, or the space behind a number.
+    fn read(&mut self, sign: u8) {
+        let d = u64::from(hex_digits::digit(sign));
+        if d < 16 {
+            self.value = self.value % 0x1000000000000000 * 16 + d;
+        }
+        if sign == b' ' {
+            let [_, b, c, d] = self.last;
+            self.last = [b, c, d, self.value];
+            self.value = 0;
+        }
     }
-    if sign == b' ' {
-        next.a = desk.b;
-        next.b = desk.c;
-        next.c = desk.d;
-        next.d = desk.value;
-        next.value = 0;
-    }
-    next
-}
 
-// What a letter asks for.
-fn act(
-    rt: &impl Print,
-    desk: Desk,
-    sign: u8,
-    numbers: &mut Numbers,
-    lists: &mut Lists,
-) -> io::Result<Desk> {
-    let mut next = desk;
-    match sign {
-        b'o' => {
-            table_files::load(numbers, b"");
-            *lists = mapping::fresh();
-            next.lent = desk.d;
+    // What a letter asks for.
+    fn act(
+        &mut self,
+        rt: &impl Print,
+        sign: u8,
+        numbers: &mut Numbers,
+        lists: &mut Lists,
+    ) -> io::Result<()> {
+        let [virt, phys, size, attr] = self.last;
+        match sign {
+            b'o' => {
+                table_files::load(numbers, b"");
+                *lists = mapping::fresh();
+                self.lent = attr;
+            }
+            b'l' => {
+                self.lent = attr;
+            }
+            b'm' => {
+                let m = Mapping {
+                    virt,
+                    phys,
+                    size,
+                    attr,
+                };
+                mapping::hold(lists, NORMAL, m);
+            }
+            b'n' => put(numbers, size, attr),
+            b'v' => {
+                vet_first(rt, numbers, self.lent, lists)?;
+                self.named = true;
+            }
+            _ => self.read(sign),
         }
-        b'l' => {
-            next.lent = desk.d;
-        }
-        b'm' => {
-            let m = Mapping {
-                virt: desk.a,
-                phys: desk.b,
-                size: desk.c,
-                attr: desk.d,
-            };
-            mapping::hold(lists, NORMAL, m);
-        }
-        b'n' => put(numbers, desk.c, desk.d),
-        b'v' => {
-            vet_first(rt, numbers, desk.lent, lists)?;
-            next.named = true;
-        }
-        _ => {
-            next = read(desk, sign);
-        }
+        Ok(())
     }
-    Ok(next)
-}
 
-fn take(
-    rt: &impl Print,
-    desk: Desk,
-    sign: u8,
-    numbers: &mut Numbers,
-    lists: &mut Lists,
-) -> io::Result<Desk> {
-    if desk.named {
-        let mut next = desk;
-        say(rt, &[sign])?;
-        next.named = sign != b'\n';
-        return Ok(next);
+    fn take(
+        &mut self,
+        rt: &impl Print,
+        sign: u8,
+        numbers: &mut Numbers,
+        lists: &mut Lists,
+    ) -> io::Result<()> {
+        if self.named {
+            say(rt, &[sign])?;
+            self.named = sign != b'\n';
+            return Ok(());
+        }
+        self.act(rt, sign, numbers, lists)
     }
-    act(rt, desk, sign, numbers, lists)
 }
 
 fn play(rt: &impl Print, text: &[u8], numbers: &mut Numbers, lists: &mut Lists) -> io::Result<()> {
     let mut desk = Desk {
-        a: 0,
-        b: 0,
-        c: 0,
-        d: 0,
+        last: [0; 4],
         value: 0,
         lent: 0,
         named: false,
     };
-    let mut i: usize = 0;
-    while i < text.len() {
-        desk = take(rt, desk, text[i], numbers, lists)?;
-        i += 1;
+    for sign in text {
+        desk.take(rt, *sign, numbers, lists)?;
     }
     Ok(())
 }

@@ -12,7 +12,7 @@ use Rattle.building.specs.Built.{status}
 use Rattle.tables_right.specs.Theorems.{said, left}
 use Rattle.tables_theorems.specs.Theorems.{fit, by_sound, left_fits}
 use Rattle.vetting.specs.Pass.{vetted}
-use Rattle.vetting.specs.declared.Vetted.TheVariants.{Accepted}
+use Rattle.vetting.specs.Outcome.{Accepted}
 use Rattle.vet_built.specs.Accepted.{built_accepted}
 
 -- From the first line on, after any run that keeps the promise of the step, whatever its lines.

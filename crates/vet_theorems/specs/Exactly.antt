@@ -1,16 +1,16 @@
 -- Accepted exactly when every entry that is reached passes and every address is answered as by the list.
-use Rattle.std.specs.Prelude.{◌≡◌, true, false, List, ltb, length}
+use Rattle.std.specs.Prelude.{◌≡◌, true, false, List, ltb, length, Option}
 use Rattle.std.proofs.Math.Path.{refl}
 use Rattle.std.proofs.Common.{sym, ◌∙◌}
 use Rattle.std.proofs.Math.Logic.{⊎_elim}
 use Prim.Native.Nat.{ℕ, zero, suc, ◌+◌, ◌*◌, ◌/◌, ◌%◌, ◌≤◌, ◌<◌}
 use native.Mathlib.Omega.{arith}
 use borrow.Author.Tests.{le-ltb, ltb-false}
+use Rattle.mapping.specs.declared.Lead.{Lead}
 use Rattle.rules.specs.Sizes.{page_size, virtual_limit}
 use Rattle.rules.specs.Choice.{pick_yes, pick_no, either}
 use Rattle.ranges.specs.declared.Mapping.{Mapping}
 use Rattle.mapping.specs.Mapping.{lead_of}
-use Rattle.mapping.specs.declared.Lead.{Lead}
 use Rattle.descriptors.specs.Numbers.{span, base_of}
 use Rattle.descriptors.specs.Meaning.{is_table, reserved, meaning, last_level, table_says, other_says}
 use Rattle.descriptors.specs.declared.Descriptor.{Descriptor}
@@ -18,7 +18,7 @@ use Rattle.walks.specs.Walk.{entry_of, entry_for, led, descended, walked, walked
 use Rattle.vetting.specs.Answers.{answer, otherwise, nowhere, alike_here, here_alike}
 use Rattle.vetting.specs.Pass.{place, scan, judged, judged_at, vetted}
 use Rattle.vetting.specs.Rooms.{region_is, part_aligned}
-use Rattle.vetting.specs.declared.Vetted.TheVariants.{Accepted, Refused}
+use Rattle.vetting.specs.Outcome.{Accepted, Refused}
 use Rattle.vet_theorems.specs.Passing.{refused_not, scan_at, scan_if, Passes, passes_plain, compared_at, compared_if, entry_at, leaf_accepted, table_accepted, accepted_leaf, accepted_table}
 use Rattle.vet_theorems.specs.Tree.{Itself, From, Reached, itself, from_table, top_aligned}
 
@@ -50,7 +50,7 @@ finds (suc (suc zero)) a i x h n e l u = record { index = omega arith; from = om
 finds (suc (suc (suc k))) a i x h n e l u = absurd (omega arith)
 
 -- ---- where an entry leads an address
-module _ (k e x : ℕ) (deeper : ℕ → Lead) where
+module _ (k e x : ℕ) (deeper : ℕ → Option Lead) where
   leaf_led : is_table k e ≡ false → led deeper (meaning k x e) ≡ answer k e x
   unfolding led answer
   leaf_led h = other_says k e x h (λ (m : Descriptor). led deeper m ≡ led nowhere m) refl refl

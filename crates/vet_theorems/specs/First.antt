@@ -18,8 +18,8 @@ use Rattle.vetting.specs.Answers.{otherwise}
 use Rattle.vetting.specs.Reached.{again}
 use Rattle.vetting.specs.Pass.{table_outside, reserved_entry, table_again, answered_otherwise, or_else, scan, place, outside, tests, refused_at, told, compared, judged, judged_at, vetted}
 use Rattle.vetting.specs.Rooms.{region_is, part_aligned, entry_ends}
-use Rattle.vetting.specs.declared.Vetted.{Vetted}
-use Rattle.vetting.specs.declared.Vetted.TheVariants.{Accepted, Refused}
+use Rattle.vetting.specs.Outcome.{Vetted}
+use Rattle.vetting.specs.Outcome.{Accepted, Refused}
 use Rattle.vet_theorems.specs.Passing.{refused_not, Passes, passes_plain, judged_last, judged_next, entry_at}
 use Rattle.vet_theorems.specs.Tree.{Itself, From, Reached, Before, itself, from_table, from_lies, none_before}
 use Rattle.vet_theorems.specs.Exactly.{inside, finds, Answers, leaf_answers, answers_leaf, table_answers, answers_table, descended_by, accepted_answers, accepted_passes}

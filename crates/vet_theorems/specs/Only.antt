@@ -12,8 +12,8 @@ use Rattle.descriptors.specs.Numbers.{span, base_of}
 use Rattle.descriptors.specs.Meaning.{is_table}
 use Rattle.walks.specs.Walk.{entry_of, walked}
 use Rattle.vetting.specs.Pass.{place, vetted}
-use Rattle.vetting.specs.declared.Vetted.{Vetted}
-use Rattle.vetting.specs.declared.Vetted.TheVariants.{Accepted, Refused}
+use Rattle.vetting.specs.Outcome.{Vetted}
+use Rattle.vetting.specs.Outcome.{Accepted, Refused}
 use Rattle.vet_theorems.specs.Tree.{Itself, From, Reached, Before, same_place, reached_lies}
 use Rattle.vet_theorems.specs.Once.{AtGib, Earlier, at_gib, at_slot}
 use Rattle.vet_theorems.specs.Statements.{Is8A, Is8B, Is8C, Is8D, Blamed, FirstOffence, accepted_only, refused_first}

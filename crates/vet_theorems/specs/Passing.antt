@@ -13,8 +13,8 @@ use Rattle.descriptors.specs.Meaning.{is_table, reserved}
 use Rattle.walks.specs.Walk.{entry_of}
 use Rattle.vetting.specs.Answers.{otherwise}
 use Rattle.vetting.specs.Pass.{or_else, scan, place, tests, refused_at, told, compared, judged, judged_at}
-use Rattle.vetting.specs.declared.Vetted.{Vetted}
-use Rattle.vetting.specs.declared.Vetted.TheVariants.{Accepted, Refused}
+use Rattle.vetting.specs.Outcome.{Vetted}
+use Rattle.vetting.specs.Outcome.{Accepted, Refused}
 
 pub refused_not : {A : Type 0} (s x : ℕ) → Refused s x ≡ Accepted → A
 refused_not s x h = let z : ◌≡◌ {A = ℕ} 0 1 = cc in absurd (omega arith)

@@ -15,7 +15,7 @@ use Rattle.descriptors.specs.Meaning.{is_table, reserved}
 use Rattle.walks.specs.Walk.{walked}
 use Rattle.vetting.specs.Reached.{again}
 use Rattle.vetting.specs.Pass.{outside, vetted}
-use Rattle.vetting.specs.declared.Vetted.TheVariants.{Accepted, Refused}
+use Rattle.vetting.specs.Outcome.{Accepted, Refused}
 use Rattle.vet_theorems.specs.Passing.{Passes, passes_plain}
 use Rattle.vet_theorems.specs.Tree.{Reached, Before, same_place, reached_lies}
 use Rattle.vet_theorems.specs.Exactly.{accepted_all, all_accepted}

@@ -1,16 +1,15 @@
 -- Where one mapping decides throughout, or none does, an entry that answers the first address as the list does answers each so.
-use Rattle.std.specs.Prelude.{◌≡◌, Bool, true, false, List, ℕ, zero, suc, ◌+◌, ◌-◌, ◌%◌, ◌^◌, ◌≤◌, ◌<◌}
+use Rattle.std.specs.Prelude.{◌≡◌, Bool, true, false, List, ℕ, zero, suc, ◌+◌, ◌-◌, ◌%◌, ◌^◌, ◌≤◌, ◌<◌, None, Option, Some}
 use Rattle.std.proofs.Math.Path.{refl}
 use Rattle.std.proofs.Common.{sym, ap, ◌∙◌, mod-lt, div-mul-le_self}
-use Rattle.std.proofs.Math.Option.{Option, none, some}
 use native.Mathlib.Omega.{arith}
+use Rattle.mapping.specs.Leads.{To}
+use Rattle.mapping.specs.declared.Lead.{Lead}
 use Rattle.rules.specs.Choice.{pick_no}
 use Rattle.tools.specs.Search.{first, first_stops, first_ends}
 use Rattle.ranges.specs.declared.Mapping.{Mapping}
 use Rattle.mapping.specs.Mapping.{deciding, leading, lead_of}
 use Rattle.mapping.proofs.Deciding.{deciding_low}
-use Rattle.mapping.specs.declared.Lead.{Lead}
-use Rattle.mapping.specs.declared.Lead.TheVariants.{To, Nowhere}
 use Rattle.descriptors.specs.Numbers.{span, base_of, span_some, span_most}
 use Rattle.descriptors.specs.Meaning.{means_two}
 use Rattle.descriptors.specs.declared.Descriptor.{Descriptor}
@@ -20,14 +19,14 @@ use Rattle.vetting.specs.Answers.{answer, otherwise, nowhere, alike_here, here_a
 use Rattle.vetting.specs.Rooms.{Part, apart}
 
 -- the lead of an address d further on
-unfoldable moved : ℕ → Lead → Lead
-moved d (To p a) = To (p + d) a
-moved d Nowhere = Nowhere
+unfoldable moved : ℕ → Option Lead → Option Lead
+moved d (Some l) = To (l.phys + d) l.attr
+moved d None = None
 
 -- far from the end of 64 bits
-unfoldable Small : Lead → Type 0
-Small (To p a) = p < 281476050452480
-Small Nowhere = Unit {0}
+unfoldable Small : Option Lead → Type 0
+Small (Some l) = l.phys < 281476050452480
+Small None = Unit {0}
 
 module _ (k e : ℕ) where
   leaf_small : (x : ℕ) → base_of (span k) e + x % span k < 281476050452480
@@ -55,8 +54,8 @@ module _ (l : List Mapping) (x y : ℕ) (lo : x ≤ y) (d : y < x + 1073741824) 
   lead_moved s = go (deciding l x) refl (rw same s)
     where
       go : (o : Option Mapping) → deciding l x ≡ o → Small (leading x (deciding l y)) → leading y (deciding l y) ≡ moved (y - x) (leading x (deciding l x))
-      go none e s = rw (same, e)
-      go (some m) e s =
+      go None e s = rw (same, e)
+      go (Some m) e s =
           let v = deciding_low l x m e in
           let u : (m.phys + (x - m.virt)) % 2 ^ 64 < 281476050452480 = rw (same, e) at s in
           let z : (m.phys + (y - m.virt)) % 2 ^ 64 ≡ (m.phys + (x - m.virt)) % 2 ^ 64 + (y - x) = omega arith in

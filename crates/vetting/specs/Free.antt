@@ -1,16 +1,14 @@
 -- Addresses that lead nowhere by the list, known ahead.
 use Rattle.std.proofs.Math.Path.{◌≡◌, refl}
 use Rattle.std.proofs.Common.{sym, ◌∙◌, add-one, suc-mul}
-use Rattle.std.specs.Prelude.{Bool, true, false, ◌&&◌, List, ℕ, ◌+◌, ◌-◌, ◌%◌, ◌≤◌, ◌<◌, eqb, ltb, leb}
-use Rattle.std.proofs.Math.Option.{Option, none, some}
+use Rattle.std.specs.Prelude.{Bool, true, false, ◌&&◌, List, ℕ, ◌+◌, ◌-◌, ◌%◌, ◌≤◌, ◌<◌, eqb, ltb, leb, None, Option, Some}
 use native.Mathlib.Omega.{arith}
 use borrow.Author.Tests.{eq-eqb, ne_eqb, eqb-true, leb-true}
+use Rattle.mapping.specs.declared.Lead.{Lead}
 use Rattle.rules.specs.Choice.{left_true, right_true, right_false}
 use Rattle.tools.specs.Search.{first_ends}
 use Rattle.ranges.specs.declared.Mapping.{Mapping}
 use Rattle.mapping.specs.Mapping.{deciding, leading, lead_of}
-use Rattle.mapping.specs.declared.Lead.{Lead}
-use Rattle.mapping.specs.declared.Lead.TheVariants.{Nowhere}
 use Rattle.descriptors.specs.Numbers.{span}
 use Rattle.descriptors.specs.Meaning.{is_table, means_clear, reserved_clear}
 use Rattle.walks.specs.Walk.{led}
@@ -19,11 +17,11 @@ use Rattle.vetting.specs.Answers.{answer, otherwise, here_alike}
 use Rattle.vetting.specs.Pass.{place, judged}
 use Rattle.vetting.specs.Alike.{first_skip}
 use Rattle.vetting.specs.Scans.{compared_yes, judged_plain}
-use Rattle.vetting.specs.declared.Vetted.TheVariants.{Accepted}
+use Rattle.vetting.specs.Outcome.{Accepted}
 
 -- from x on, before `end`
 unfoldable pub FreeTo : List Mapping → ℕ → ℕ → Type 0
-FreeTo l x end = (y : ℕ) → x ≤ y → y < end → lead_of l y ≡ Nowhere
+FreeTo l x end = (y : ℕ) → x ≤ y → y < end → lead_of l y ≡ None
 
 -- an entry with bit 0 clear, all of whose addresses come before `end`
 unfoldable pub is_free : ℕ → ℕ → ℕ → ℕ → Bool
@@ -57,15 +55,15 @@ module _ (l : List Mapping) where
   free_on x z end f h y g u = f y (omega arith) u
 
   -- up to the next edge, where x leads nowhere
-  pub free_steady : (x n m : ℕ) (d : Lead) → d ≡ lead_of l x → d ≡ Nowhere → n ≡ steady l x m → FreeTo l x (x + n)
+  pub free_steady : (x n m : ℕ) (d : Option Lead) → d ≡ lead_of l x → d ≡ None → n ≡ steady l x m → FreeTo l x (x + n)
   unfolding FreeTo lead_of leading
   free_steady x n m d e f s y h u =
       let i : deciding l y ≡ deciding l x = steady_decides l x m y h (rw s at u) in
       rw (i, nobody (deciding l x) (sym e ∙ f))
     where
-      nobody : (o : Option Mapping) → leading x o ≡ Nowhere → o ≡ none
-      nobody none q = refl
-      nobody (some q) p = let z : ◌≡◌ {A = ℕ} 0 1 = cc in absurd (omega arith)
+      nobody : (o : Option Mapping) → leading x o ≡ None → o ≡ None
+      nobody None q = refl
+      nobody (Some q) p = let z : ◌≡◌ {A = ℕ} 0 1 = cc in absurd (omega arith)
 
   pub steady_fits : (x n m : ℕ) → n ≡ steady l x m → n ≤ m
   steady_fits x n m e = omega (arith, steady_most l x m)

@@ -1,5 +1,6 @@
 pub mod Answers
 pub mod Reached
+pub mod Outcome
 pub mod Pass
 pub mod Rooms
 pub mod Alike

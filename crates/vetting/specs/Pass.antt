@@ -11,21 +11,7 @@ use Rattle.descriptors.specs.Meaning.{is_table, reserved}
 use Rattle.walks.specs.Walk.{entry_of}
 use Rattle.vetting.specs.Answers.{otherwise}
 use Rattle.vetting.specs.Reached.{again}
-use Rattle.vetting.specs.declared.Vetted.{Vetted}
-use Rattle.vetting.specs.declared.Vetted.TheVariants.{Accepted, Refused}
-
--- 8A, 8B, 8C and 8D
-abbrev pub table_outside : ℕ
-table_outside = 138
-
-abbrev pub reserved_entry : ℕ
-reserved_entry = 139
-
-abbrev pub table_again : ℕ
-table_again = 140
-
-abbrev pub answered_otherwise : ℕ
-answered_otherwise = 141
+pub use Rattle.vetting.specs.Outcome.{Vetted, Accepted, Refused, table_outside, reserved_entry, table_again, answered_otherwise}
 
 -- the first refusal of the n from a on, each after those before it
 unfoldable pub or_else : Vetted → Vetted → Vetted

@@ -13,29 +13,8 @@ use Rattle.descriptors.specs.Numbers.{span, base_of}
 use Rattle.descriptors.specs.Meaning.{is_table, reserved, last_level}
 use Rattle.vetting.specs.Answers.{otherwise}
 use Rattle.vetting.specs.Reached.{again}
-use Rattle.vetting.specs.Pass.{table_outside, reserved_entry, table_again, answered_otherwise, or_else, scan, place, outside, tests, refused_at, told, compared, judged, judged_at, vetted}
-use Rattle.vetting.specs.declared.Vetted.{Vetted}
-use Rattle.vetting.specs.declared.Vetted.TheVariants.{Accepted, Refused}
-
-unfoldable pub is_refused : Vetted → Bool
-is_refused Accepted = false
-is_refused (Refused s x) = true
-
-module _ (v : Vetted) where
-  pub refused_no : v ≡ Accepted → false ≡ is_refused v
-  unfolding is_refused
-  refused_no h = rw h
-
-  pub refused_yes : (s x : ℕ) → v ≡ Refused s x → true ≡ is_refused v
-  unfolding is_refused
-  refused_yes s x h = rw h
-
-pub ruleset refusing = (refused_no, refused_yes)
-
-pub accepted_is : (v w : Vetted) → is_refused v ≡ false → or_else v w ≡ w
-unfolding is_refused or_else
-accepted_is Accepted w h = refl
-accepted_is (Refused s x) w h = let z : true ≡ false = h in absurd (yes_or_no true refl z)
+use Rattle.vetting.specs.Pass.{table_outside, reserved_entry, table_again, answered_otherwise, scan, place, outside, tests, refused_at, told, compared, judged, judged_at, vetted}
+use Rattle.vetting.specs.Outcome.{Vetted, Accepted, Refused}
 
 pub scan_whole : (f : ℕ → Vetted) (n : ℕ) → scan f 0 n ≡ scan f 0 (n - 0)
 scan_whole f n = let z : n - 0 ≡ n = omega arith in rw z

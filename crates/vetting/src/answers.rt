@@ -3,55 +3,33 @@ ghost use Rattle.std.specs.Prelude.{◌≡◌};
 ghost use Rattle.tools.specs.Search.{first};
 ghost use Rattle.descriptors.specs.Numbers.{span};
 ghost use Rattle.mapping.specs.Lists.{held};
-ghost use Rattle.mapping.specs.declared.Lead.TheVariants.{To, Nowhere};
 ghost use Rattle.vetting.specs.Answers.{same_lead, answer, otherwise};
 ghost use Rattle.vetting.specs.Rooms.{Part};
 
 use descriptors::Descriptor;
 use mapping::{Lead, Lists};
 
-// Whether it leads to this address with these attributes.
-fn is_to(phys: u64, attr: u64, other: Lead) -> bool
-    ensures { result ≡ same_lead (To phys attr) other }
-{
-    match other {
-        Lead::To { phys: p, attr: a } => {
-            if phys == p {
-                return attr == a;
-            }
-            false
-        }
-        Lead::Nowhere => false,
-    }
-}
-
-fn is_nowhere(other: Lead) -> bool
-    ensures { result ≡ same_lead Nowhere other }
-{
-    match other {
-        Lead::To { phys: _, attr: _ } => false,
-        Lead::Nowhere => true,
-    }
-}
-
-fn is_same(one: Lead, other: Lead) -> bool
+// Whether both lead to one address with the same attributes, or both nowhere.
+#[tactic(auto, unfolding(crate::specs::Answers::same_lead))]
+fn is_same(one: Option<Lead>, other: Option<Lead>) -> bool
     ensures { result ≡ same_lead one other }
 {
-    match one {
-        Lead::To { phys, attr } => is_to(phys, attr, other),
-        Lead::Nowhere => is_nowhere(other),
+    match (one, other) {
+        (Some(a), Some(b)) => a.phys == b.phys && a.attr == b.attr,
+        (None, None) => true,
+        _ => false,
     }
 }
 
 // Where an entry that is no table leads an address.
-fn answer_of(below: u64, number: u64, x: u64) -> Lead
+fn answer_of(below: u64, number: u64, x: u64) -> Option<Lead>
     ensures { result ≡ answer below number x }
 {
     let d = descriptors::meaning_of(below, x, number);
     match d {
-        Descriptor::Nothing => Lead::Nowhere,
-        Descriptor::Table { at: _ } => Lead::Nowhere,
-        Descriptor::Leaf { phys, attr } => Lead::To { phys, attr },
+        Descriptor::Nothing => None,
+        Descriptor::Table { at: _ } => None,
+        Descriptor::Leaf { phys, attr } => Some(Lead { phys, attr }),
     }
 }
 
@@ -66,7 +44,7 @@ fn is_otherwise(lists: &Lists, world: u64, below: u64, number: u64, x: u64) -> b
 }
 
 // The first address from `start` on that the list answers otherwise, or the end of the entry. Up to the next edge of a mapping
-// all addresses are answered as the first is.
+// all addresses are answered as the first is. The loop is a while, since x goes on by whole stretches.
 pub(crate) fn first_otherwise(lists: &Lists, world: u64, below: u64, start: u64, number: u64) -> u64
     requires { Part below start }
     ensures { result ≡ first (otherwise (held lists.now world) below number) start (span below) }

@@ -8,14 +8,12 @@ use descriptors::GIB_SIZE;
 use mapping::{Lead, Lists};
 
 // Whether bit 0 is clear and all addresses of the entry come before `free`.
+#[tactic(auto, using(crate::specs::Free::free_by, crate::specs::Free::free_not))]
 pub(crate) fn is_free(below: u64, start: u64, number: u64, free: u64) -> bool
     requires { Part below start }
     ensures { result ≡ is_free below start number free }
 {
-    if number % 2 == 0 {
-        return start + descriptors::span_of(below) <= free;
-    }
-    false
+    number % 2 == 0 && start + descriptors::span_of(below) <= free
 }
 
 // Up to where the addresses from x on lead nowhere: to the next edge of a mapping, or a GiB.
@@ -25,8 +23,8 @@ fn free_until(lists: &Lists, world: u64, x: u64) -> u64
 {
     let lead = mapping::lead_of(lists, world, x);
     match lead {
-        Lead::To { phys: _, attr: _ } => x,
-        Lead::Nowhere => x + stretches::steady(lists, world, x, GIB_SIZE),
+        Some(Lead { phys: _, attr: _ }) => x,
+        None => x + stretches::steady(lists, world, x, GIB_SIZE),
     }
 }
 
@@ -35,10 +33,7 @@ pub(crate) fn freed(lists: &Lists, world: u64, end: u64, number: u64, free: u64)
     requires { (end ≤ 549755813888) × FreeTo (held lists.now world) end free }
     ensures { FreeTo (held lists.now world) end result }
 {
-    if number % 2 == 1 {
-        return free;
-    }
-    if end < free {
+    if number % 2 == 1 || end < free {
         return free;
     }
     free_until(lists, world, end)

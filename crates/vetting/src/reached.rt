@@ -6,6 +6,7 @@ ghost use Rattle.vetting.specs.Reached.{is_at, gib, slot, says, leads, gibs_befo
 use descriptors::{Descriptor, GIB_SIZE, SLOT_SIZE};
 
 // Whether it is the table at this byte offset.
+#[tactic(auto, using(crate::specs::Reached::saying))]
 fn is_at(to: u64, d: Descriptor) -> bool
     ensures { result ≡ is_at to d }
 {
@@ -17,6 +18,7 @@ fn is_at(to: u64, d: Descriptor) -> bool
 }
 
 // What the entry of level 1 says of an address.
+#[tactic(auto, using(crate::specs::Reached::saying))]
 fn gib_of(numbers: &[u64], x: u64) -> Descriptor
     ensures { result ≡ gib numbers.now x }
 {
@@ -24,6 +26,7 @@ fn gib_of(numbers: &[u64], x: u64) -> Descriptor
 }
 
 // What the entry of level 2 says of an address, nothing where there is none.
+#[tactic(auto, using(crate::specs::Reached::saying))]
 fn slot_of(numbers: &[u64], x: u64) -> Descriptor
     ensures { result ≡ slot numbers.now x }
 {
@@ -40,6 +43,7 @@ fn slot_of(numbers: &[u64], x: u64) -> Descriptor
 }
 
 // The one where two levels are below, else the other.
+#[tactic(auto, using(crate::specs::Reached::saying))]
 fn says_of(numbers: &[u64], below: u64, x: u64) -> Descriptor
     ensures { result ≡ says numbers.now below x }
 {
@@ -54,17 +58,16 @@ fn is_led_to(numbers: &[u64], below: u64, to: u64, n: u64) -> bool
     requires { n ≤ 1048576 }
     ensures { result ≡ any (leads numbers.now below to) 0 n }
 {
-    let mut i = 0;
-    while i < n {
+    for i in 0..n {
         if is_at(to, says_of(numbers, below, i * descriptors::span_of(below))) {
             return true;
         }
-        i += 1;
     }
     false
 }
 
 // How many entries of level 1 come before an entry for the addresses from `start` on: the one above it does.
+#[tactic(auto, using(crate::specs::Reached::reaching))]
 fn gibs_before(below: u64, start: u64) -> u64
     requires { start ≤ 549755813888 }
     ensures { (result ≡ gibs_before below start) × (result ≤ 1048576) }
@@ -76,15 +79,12 @@ fn gibs_before(below: u64, start: u64) -> u64
 }
 
 // Whether the table is that of level 1, or an entry before this one leads to it.
+#[tactic(auto, using(crate::specs::Reached::reaching))]
 pub(crate) fn is_earlier(numbers: &[u64], below: u64, start: u64, to: u64) -> bool
     requires { start ≤ 549755813888 }
     ensures { result ≡ earlier numbers.now below start to }
 {
-    if to == 0 {
-        return true;
-    }
-    if is_led_to(numbers, 2, to, gibs_before(below, start)) {
-        return true;
-    }
-    is_led_to(numbers, 1, to, start / SLOT_SIZE)
+    to == 0
+        || is_led_to(numbers, 2, to, gibs_before(below, start))
+        || is_led_to(numbers, 1, to, start / SLOT_SIZE)
 }

@@ -3,20 +3,17 @@
 
 ghost use Rattle.std.specs.Prelude.{◌≡◌};
 ghost use Rattle.mapping.specs.Lists.{held};
-ghost use Rattle.frames.specs.Frames.{Machine, on_machine};
 ghost use Rattle.views.specs.Views.{holds, mapped_in, mapped_by, about, shows, seen_line};
 
 use cores::{Powers, Turns};
+use frames::Machine;
 use judgements::names;
-use ledger::Ledger;
 use mapping::{Lead, Lists};
 use origins::{Lines, Origins};
 use outcomes::Came;
-use pages::{Named, Owners, Place, Window};
+use pages::{Named, Owners, Window};
 use parsing::Frame;
-use registers::Saved;
 use rules::PAGE_SIZE;
-use setup::Setup;
 use spans::Span;
 
 // What somebody wants to see.
@@ -37,13 +34,13 @@ pub struct Seen {
 }
 
 // Whether a page of the window is one of these.
-fn holds(s: Span, p: Place) -> bool
+fn holds(s: Option<Span>, p: Option<u64>) -> bool
     ensures { result ≡ holds s p }
 {
-    let Span::Pages { first, count } = s else {
+    let Some(Span { first, count }) = s else {
         return false;
     };
-    let Place::Page(page) = p else {
+    let Some(page) = p else {
         return false;
     };
     if page < first {
@@ -53,7 +50,7 @@ fn holds(s: Span, p: Place) -> bool
 }
 
 // The pages that a call maps or unmaps, by the caller's mappings before it.
-fn mapped_in(w: Window, world: u64, x: &[u64; 8], lists: &Lists) -> Span
+fn mapped_in(w: Window, world: u64, x: &[u64; 8], lists: &Lists) -> Option<Span>
     ensures { result ≡ mapped_in w (held lists.now world) x.now }
 {
     let q = judging::read_call(x);
@@ -62,49 +59,49 @@ fn mapped_in(w: Window, world: u64, x: &[u64; 8], lists: &Lists) -> Span
         return spans::span_of(w, a.x1, a.x3 / PAGE_SIZE);
     }
     if q.key == names::UNMAP_PAGES {
-        let Lead::To { phys, attr } = mapping::lead_of(lists, world, a.x1) else {
-            return Span::NoPages;
+        let Some(Lead { phys, attr }) = mapping::lead_of(lists, world, a.x1) else {
+            return None;
         };
         return spans::span_of(w, phys, a.x2 / PAGE_SIZE);
     }
-    Span::NoPages
+    None
 }
 
 // The same of any frame.
-fn mapped_by(w: Window, frame: Frame, x: &[u64; 8], turns: &Turns, lists: &Lists) -> Span
+fn mapped_by(w: Window, frame: Frame, x: &[u64; 8], turns: &Turns, lists: &Lists) -> Option<Span>
     ensures { result ≡ mapped_by w frame x.now turns.now lists.now }
 {
     match frame {
-        Frame::Site { base, pages, cores } => Span::NoPages,
+        Frame::Site { base, pages, cores } => None,
         Frame::Entry {
             first,
             last,
             kind,
             handler,
-        } => Span::NoPages,
+        } => None,
         Frame::Name {
             first,
             count,
             owner,
-        } => Span::NoPages,
+        } => None,
         Frame::Call { core } => {
             let turn = cores::turn_of(turns, core);
             mapped_in(w, turn.world, x, lists)
         }
-        Frame::Arrival { core } => Span::NoPages,
-        Frame::Refused(why) => Span::NoPages,
+        Frame::Arrival { core } => None,
+        Frame::Refused(why) => None,
     }
 }
 
 // Whether a line is about a page: it names its owner, asks for its transfer, or maps or unmaps it.
 fn is_about(
-    p: Place,
+    p: Option<u64>,
     address: u64,
     w: Window,
     frame: Frame,
     x: &[u64; 8],
     came: Came,
-    mapped: Span,
+    mapped: Option<Span>,
 ) -> bool
     ensures { result ≡ about p address w frame x.now came mapped }
 {
@@ -121,7 +118,14 @@ fn is_about(
     false
 }
 
-fn is_shown(view: View, w: Window, frame: Frame, x: &[u64; 8], came: Came, mapped: Span) -> bool
+fn is_shown(
+    view: View,
+    w: Window,
+    frame: Frame,
+    x: &[u64; 8],
+    came: Came,
+    mapped: Option<Span>,
+) -> bool
     ensures { result ≡ shows view w frame x.now came mapped }
 {
     match view {
@@ -138,22 +142,13 @@ pub fn take_line(
     x: &[u64; 8],
     origins: &mut Origins,
     lines: &mut Lines,
-    setup: &mut Setup,
-    named: &mut Named,
-    book: &mut Ledger,
-    owners: &mut Owners,
-    saved: &mut Saved,
-    powers: &mut Powers,
-    turns: &mut Turns,
-    lists: &mut Lists,
+    machine: &mut Machine,
 ) -> Seen
-    ensures { on_machine setup named book owners saved powers turns lists (λ (m m' : Machine). ((m', (origins.new, lines.new)), result) ≡ seen_line view (m, (origins.old, lines.old)) (frame, x.now)) }
+    ensures { ((machine.new, (origins.new, lines.new)), result) ≡ seen_line view (machine.old, (origins.old, lines.old)) (frame, x.now) }
 {
-    let w = setup::window_of(setup);
-    let mapped = mapped_by(w, frame, x, turns, lists);
-    let came = tracing::take_line(
-        frame, x, origins, lines, setup, named, book, owners, saved, powers, turns, lists,
-    );
+    let w = setup::window_of(&machine.setup);
+    let mapped = mapped_by(w, frame, x, &machine.turns, &machine.lists);
+    let came = tracing::take_line(frame, x, origins, lines, machine);
     let shown = is_shown(view, w, frame, x, came, mapped);
     Seen { came, shown }
 }

@@ -3,15 +3,9 @@
 #![tactic(auto)]
 
 ghost use Rattle.std.specs.Prelude.{◌≡◌};
-ghost use Rattle.frames.specs.Frames.{Machine, on_machine};
 ghost use Rattle.inputs.specs.Waiting.{front, heard, served};
 
-use cores::{Powers, Turns};
-use ledger::Ledger;
-use mapping::Lists;
-use pages::{Named, Owners};
-use registers::Saved;
-use setup::Setup;
+use frames::Machine;
 
 // The bytes that wait, and behind them those of a read.
 pub type Input = [u8; 65536];
@@ -32,25 +26,28 @@ pub fn answer_read(
     kept: usize,
     n: usize,
     out: &mut Output,
-    setup: &mut Setup,
-    named: &mut Named,
-    book: &mut Ledger,
-    owners: &mut Owners,
-    saved: &mut Saved,
-    powers: &mut Powers,
-    turns: &mut Turns,
-    lists: &mut Lists,
+    machine: &mut Machine,
 ) -> Due
-    ensures { on_machine setup named book owners saved powers turns lists (λ (m m' : Machine). (m', (front result.put out.new, front result.kept buf.new)) ≡ served m (heard buf.old kept n)) }
+    ensures { (machine.new, (front result.put out.new, front result.kept buf.new)) ≡ served machine.old (heard buf.old kept n) }
 {
     let end = lines::close(buf, kept, n);
     let bytes: &[u8] = buf;
+    let Machine {
+        setup,
+        named,
+        ledger,
+        owners,
+        saved,
+        powers,
+        turns,
+        lists,
+    } = machine;
     let fed = stream::feed(
         &bytes[0..end],
         out,
         setup,
         named,
-        book,
+        ledger,
         owners,
         saved,
         powers,

@@ -11,7 +11,8 @@ pub mod names;
 // How many words there are.
 const WORDS: u64 = 112;
 
-// The words, one behind the other.
+// The words, one behind the other. A table of `&str` was tried: its proof did not close, since no fact gives a proof the words
+// that stand in a constant table.
 const TEXT: [u8; 1480] = *b"\
     Root\
     Secure\

@@ -1,4 +1,5 @@
-// The words by name.
+// The words by name. Numbers and no enum: `word_text` takes them, and the theorems on lines speak of a word that is worked out, as
+// a mapping's attributes from READ_ONLY on.
 
 // Worlds, which are owners too, from Root on.
 pub const ROOT: u64 = 0;

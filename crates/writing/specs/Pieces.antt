@@ -1,12 +1,14 @@
 -- Pieces of text, put one behind the other.
-use Rattle.std.specs.Prelude.{◌≡◌, refl, List, ◌++◌, length, get_or, set, drop}
-use Rattle.std.proofs.Common.{sym, ap, ◌∙◌, add-zero, add-one, length-append, drop_of_length-le}
-use Prim.Native.Nat.{ℕ, suc, ◌+◌, ◌≤◌, ◌<◌}
+use Rattle.std.specs.Prelude.{◌≡◌, refl, List, ◌++◌, length, get_or, set, take, drop}
+use Rattle.std.proofs.Common.{sym, ap, ◌∙◌, add-zero, add-one, append_assoc, length-append, drop-drop, drop_of_length-le}
+use Prim.Native.Nat.{ℕ, suc, ◌+◌, ◌-◌, ◌≤◌, ◌<◌}
 use native.Mathlib.Omega.{arith}
 use Rattle.std.proofs.Math.ListN.{length-set}
 use Rattle.std.proofs.lemmas.List.Edits.{sets}
 use Rattle.std.proofs.Math.Seq.{drop-cons}
-use Rattle.tools.specs.Laid.{laid, then}
+use Rattle.std.proofs.lemmas.List.Edits.{sets-eq}
+use borrow.Rule.Slice.PartMut.{put_mid}
+use Rattle.tools.specs.Laid.{laid, put, put_fits, then}
 
 -- a text was laid at a place, and r is the place behind it
 pub record Stands (o : List ℕ) (at : ℕ) (text : List ℕ) (r : ℕ) (o' : List ℕ) : Type 0 where
@@ -49,3 +51,13 @@ module _ (o₀ o text : List ℕ) (at i : ℕ) (p : Copied o₀ o text at i) whe
   copied_all h = rw (drop_of_length-le text h) at p.left
 
 pub ruleset copying = (copied_none, copied_more, copied_all)
+
+over : (o text : List ℕ) (at : ℕ) → at + length text ≤ length o → put_mid at (length text) o text ≡ laid o at text
+unfolding laid
+over o text at h = rw (drop-drop (length text) at o) (sym (sets-eq text o at h ∙ append_assoc (take at o) text (drop (at + length text) o)))
+
+-- a text copied over as many bytes stands there
+pub copied_over : (o text now : List ℕ) (at n : ℕ) → n ≡ length text → now ≡ text → at + n ≤ length o → (at + n, put_mid at (at + n - at) o now) ≡ put o at text
+copied_over o text now at n e is h =
+    put_fits o at text n (sym e) (put_mid at (at + n - at) o now) h
+    (let k : at + n - at ≡ length text = omega arith in rw (is, k) (over o text at (omega arith)))

@@ -1,36 +1,7 @@
--- In each arm of `write_answer` the answer is known, and the results that it writes are those of its definition.
-use Rattle.answers.specs.Laws.{answers}
+-- An answer that is silent writes nothing.
+use borrow.Author.Rules.{rules}
+use Rattle.answers.specs.Laws.{writes_nothing}
 use Rattle.answers.proofs.write_answer.Goals as goal
 
-pub returns-in-Version : goal.returns-in-Version
-returns-in-Version c = search answers
-
-pub returns-in-PowerVersion : goal.returns-in-PowerVersion
-returns-in-PowerVersion c = search answers
-
-pub returns-in-Done : goal.returns-in-Done
-returns-in-Done c = search answers
-
-pub returns-in-On : goal.returns-in-On
-returns-in-On c = search answers
-
-pub returns-in-Off : goal.returns-in-Off
-returns-in-Off c = search answers
-
-pub returns-in-Pending : goal.returns-in-Pending
-returns-in-Pending c = search answers
-
-pub returns-in-Owns : goal.returns-in-Owns
-returns-in-Owns c = search answers
-
-pub returns-in-Leads : goal.returns-in-Leads
-returns-in-Leads c = search answers
-
-pub returns-in-Count : goal.returns-in-Count
-returns-in-Count c = search answers
-
 pub returns-in-Silent : goal.returns-in-Silent
-returns-in-Silent c = search answers
-
-pub returns-in-No : goal.returns-in-No
-returns-in-No c = search answers
+returns-in-Silent c = search (writes_nothing, rules)

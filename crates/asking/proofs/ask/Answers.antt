@@ -1,6 +1,5 @@
 -- `ask` meets its promise: the row is that of the key, and the arguments are those that the call reads.
 use borrow.Author.Rules.{rules}
-use Rattle.asking.proofs.ask.Reads as reads
 use Rattle.asking.specs.Forms.{slotting}
 use Rattle.asking.proofs.ask.Goals as goal
 

@@ -3,14 +3,14 @@ use Rattle.judgements.specs.Judge.{mapping}
 use Rattle.board.specs.Laws.{maps}
 use Rattle.board.proofs.map_wanted.Goals as goal
 
-pub returns-in-Granted : goal.returns-in-Granted
+pub returns-in-Ok-Hold : goal.returns-in-Ok-Hold
 unfolding mapping
-returns-in-Granted c = search maps
+returns-in-Ok-Hold c = search maps
 
-pub returns-in-Nothing : goal.returns-in-Nothing
+pub returns-in-Ok-Nothing : goal.returns-in-Ok-Nothing
 unfolding mapping
-returns-in-Nothing c = search maps
+returns-in-Ok-Nothing c = search maps
 
-pub returns-in-No : goal.returns-in-No
+pub returns-in-Err : goal.returns-in-Err
 unfolding mapping
-returns-in-No c = search maps
+returns-in-Err c = search maps

@@ -3,10 +3,10 @@ use Rattle.judgements.specs.Judge.{leading}
 use Rattle.board.specs.Laws.{leads}
 use Rattle.board.proofs.where_leads.Goals as goal
 
-pub returns-in-To : goal.returns-in-To
+pub returns-in-Some : goal.returns-in-Some
 unfolding leading
-returns-in-To c = search leads
+returns-in-Some c = search leads
 
-pub returns-in-Nowhere : goal.returns-in-Nowhere
+pub returns-in-None : goal.returns-in-None
 unfolding leading
-returns-in-Nowhere c = search leads
+returns-in-None c = search leads

@@ -1,23 +1,11 @@
 use native.Mathlib.Omega.{arith}
 use Rattle.building.specs.Gaps.{gap_inside, count_passed}
-use Rattle.building.specs.Writing.{counting, inside_below, part_inside, count_starts, count_fits, count_goes, count_ends}
+use Rattle.building.specs.Writing.{inside_below, part_inside, count_starts, count_fits, count_goes, count_ends}
 use borrow.Author.Rules.{rules}
 use Rattle.building.proofs.+below_of_tables_of.Goals as goal
 
-pub below_of-returns-then-level-eq0 : goal.below_of-returns-then-level-eq0
-below_of-returns-then-level-eq0 t c = search (rules, counting)
-
 pub below_of-tables_of-requires : goal.below_of-tables_of-requires
 below_of-tables_of-requires t c = (omega arith, inside_below _ _ c.requires (search rules))
-
-pub below_of-returns-then-is_deeper : goal.below_of-returns-then-is_deeper
-below_of-returns-then-is_deeper t c = search (rules, counting)
-
-pub below_of-returns : goal.below_of-returns
-below_of-returns t c = search (rules, counting)
-
-pub tables_of-returns-then-level-eq0 : goal.tables_of-returns-then-level-eq0
-tables_of-returns-then-level-eq0 t c = search (rules, counting)
 
 pub tables_of-loop-i-init : goal.tables_of-loop-i-init
 tables_of-loop-i-init t c = (search rules, count_starts _ _ _)
@@ -42,6 +30,3 @@ tables_of-overflow_add-n t c = omega (arith, count_fits _ _ _ _ _ (count_passed 
 
 pub tables_of-loop-i-preserved : goal.tables_of-loop-i-preserved
 tables_of-loop-i-preserved t c = (search rules, count_goes _ _ _ _ _ (count_passed _ _ _ _ _ _ c.part_of.ensures c.gap_of-i.ensures _ c.loop-i.invariant.1) _ _ c.part_of-in-loop-i.ensures c.below_of-n.ensures)
-
-pub tables_of-returns : goal.tables_of-returns
-tables_of-returns t c = search (rules, counting)

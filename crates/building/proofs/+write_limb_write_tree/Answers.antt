@@ -1,5 +1,4 @@
 use native.Mathlib.Omega.{arith}
-use Rattle.layout.specs.Layout as Layout
 use Rattle.building.specs.Gaps.{gap_inside, next_passed, limbs_passed}
 use Rattle.building.specs.Writing.{limbs_start, limbs_go, limbs_end, next_starts, next_after, next_ends, limb_fits, limb_fit, limb_none, limb_not, limb_yes}
 use borrow.Author.Rules.{rules}

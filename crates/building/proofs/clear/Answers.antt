@@ -6,13 +6,13 @@ use borrow.Author.Rules.{rules}
 use Rattle.building.proofs.clear.Goals as goal
 
 pub loop-i-init : goal.loop-i-init
-loop-i-init c = (search rules, zeros_start _ _)
+loop-i-init c = zeros_start _ _
 
 pub loop-i-preserved : goal.loop-i-preserved
-loop-i-preserved c = (search rules, zeros_go _ _ _ _ _ c.loop-i.invariant.1 c.put.ensures)
+loop-i-preserved c = zeros_go _ _ _ _ _ c.loop-i.invariant c.put.ensures
 
 pub shape_of-numbers : goal.shape_of-numbers
-shape_of-numbers c = ap length c.loop-i.invariant.1 ∙ length_laid _ _ _
+shape_of-numbers c = ap length c.loop-i.invariant ∙ length_laid _ _ _
 
 pub returns : goal.returns
-returns c = zeros_end _ _ _ _ _ c.loop-i.invariant.1 (search rules) (search rules)
+returns c = zeros_end _ _ _ _ _ c.loop-i.invariant (search rules) (search rules)

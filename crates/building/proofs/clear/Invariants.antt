@@ -1,12 +1,8 @@
 -- `clear` meets its promise, since each pass lays one zero behind those before it.
-use mathlib.Core.Path.{◌≡◌}
-use Prim.Native.Nat.{◌-◌, ◌≤◌}
+use Rattle.std.proofs.Common.{◌≡◌}
 use Rattle.tools.specs.Laid.{laid}
 use Rattle.layout.specs.Rows.{rows, nil}
 use Rattle.building.proofs.clear.Given as goal
 
 abbrev pub invariant-loop-i : goal.invariant-loop-i
-invariant-loop-i l = (l.i ≤ l.n) × (l.numbers ≡ laid l.initial.numbers l.at (rows nil l.i))
-
-abbrev pub decreases-loop-i : goal.decreases-loop-i
-decreases-loop-i l = l.n - l.i
+invariant-loop-i l = l.numbers ≡ laid l.initial.numbers l.at (rows nil l.i)

@@ -2,7 +2,6 @@ use mathlib.Core.Path.{ap, ◌∙◌}
 use native.Mathlib.Omega.{arith}
 use lib.ListN.{length}
 use Rattle.tools.specs.Laid.{length_laid}
-use Rattle.layout.specs.Layout as Layout
 use Rattle.building.specs.Gaps.{gap_inside, next_passed, row_passed}
 use Rattle.building.specs.Writing.{row_starts, row_goes, row_ends, next_starts, next_fits, next_goes, part_inside, sum_fits}
 use borrow.Author.Rules.{rules}

@@ -1,15 +1,6 @@
--- Every table is made as it is before the first frame, and the loop starts from there.
+-- The machine is made as it is before the first frame, and the loop starts from there.
 use Rattle.inputs.specs.Monitor.{ran_left}
 use Rattle.console.proofs.run.Goals as goal
 
-pub returns : goal.returns
-returns g c y =
-    ran_left _ _ _ _ _ _ _ _ _ _ _ _ _ _ _ _ _ c.serve-whole.ensures y
-    c.fresh-setup.ensures
-    c.fresh_named-named.ensures
-    c.fresh-book.ensures
-    c.fresh_owners-owners.ensures
-    c.fresh-saved.ensures
-    c.fresh_powers-powers.ensures
-    c.fresh_turns-turns.ensures
-    c.fresh-lists.ensures
+pub returns-then-serve : goal.returns-then-serve
+returns-then-serve g c = ran_left _ _ _ c.serve.ensures c.if-serve.true c.fresh-machine.ensures

@@ -1,10 +1,6 @@
--- Each line ends behind where it began, and in the text.
-use Prim.Native.Nat.{◌-◌, ◌≤◌}
-use lib.ListN.{length}
+-- Each name that is taken leaves fewer signs.
+use Rattle.std.proofs.Common.{length}
 use Rattle.conversions_run.proofs.run.Given as goal
 
-abbrev pub invariant-loop-at : goal.invariant-loop-at
-invariant-loop-at g l = l.at ≤ length l.text
-
-abbrev pub decreases-loop-at : goal.decreases-loop-at
-decreases-loop-at g l = length l.text - l.at
+abbrev pub decreases-loop-text : goal.decreases-loop-text
+decreases-loop-text g l = length l.text.left.now

@@ -1,23 +1,15 @@
 -- `pack` meets its promise, since each return is one outcome of it.
-use Rattle.converting.proofs.pack.Reads as reads
-use Rattle.converting.proofs.pack.Lts as lts
-use Rattle.conversions.proofs.has_stray_byte.Reads as has-stray-byte-reads
-use Rattle.conversions.proofs.lay_numbers.Reads as lay-numbers-reads
-use Rattle.converting.proofs.is_cramped.Reads as is-cramped-reads
-use Rattle.converting.specs.Outcomes.{outcomes, few_pages}
+use Rattle.converting.specs.Outcomes.{outcomes, pack_cramped}
+use Rattle.std.proofs.lemmas.Result.{err_from_is_err_and}
+use borrow.Author.Rules.{rules}
 use Rattle.converting.proofs.pack.Goals as goal
 
-pub returns-then-is_cramped : goal.returns-then-is_cramped
-returns-then-is_cramped c = search outcomes
-
-pub overflow_cast-n : goal.overflow_cast-n
-overflow_cast-n c = record { fits = search few_pages }
+pub returns-in_err-pages : goal.returns-in_err-pages
+returns-in_err-pages c =
+    let p = err_from_is_err_and c.from_residual.result c.from_residual.ensures.1 in rw (p.1, p.2, c.in_err-pages.ensures.0) (pack_cramped _ _ _ c.in_err-pages.ensures.1)
 
 pub returns-then-has_stray_byte : goal.returns-then-has_stray_byte
-returns-then-has_stray_byte c = search outcomes
-
-pub overflow_cast-n-2 : goal.overflow_cast-n-2
-overflow_cast-n-2 c = record { fits = search few_pages }
+returns-then-has_stray_byte c = search (outcomes, rules)
 
 pub returns : goal.returns
-returns c = search outcomes
+returns c = search (outcomes, rules)

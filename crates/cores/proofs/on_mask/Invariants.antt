@@ -4,6 +4,3 @@ use Rattle.cores.proofs.on_mask.Given as goal
 
 abbrev pub invariant-loop-core : goal.invariant-loop-core
 invariant-loop-core l = Masked l.t l.core l.mask
-
-abbrev pub decreases-loop-core : goal.decreases-loop-core
-decreases-loop-core l = l.core

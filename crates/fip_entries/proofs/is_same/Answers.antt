@@ -1,17 +1,13 @@
-use Rattle.tools.specs.Search.{all_goes, all_stops, all_ends}
-use Rattle.fip_entries.specs.Entries.{same, agrees_yes, agrees_no}
-use borrow.Author.Rules.{rules}
+-- `is_same` meets its promise, since it compares each byte of the identifiers.
+use Rattle.std.proofs.Common.{rules, tests, refl}
+use Rattle.std.proofs.lemmas.Iterator.{YieldsList-from_range}
+use Rattle.std.proofs.lemmas.Iterator.Search.{all_from_yields_List}
+use Rattle.fip_entries.specs.Entries.{entry, agrees, agrees_all}
 use Rattle.fip_entries.proofs.is_same.Goals as goal
 
-pub loop-unseen-init : goal.loop-unseen-init
-unfolding same
-loop-unseen-init c = search rules
-
-pub returns-then-byte : goal.returns-then-byte
-returns-then-byte c = all_stops _ _ _ _ c.loop-unseen.invariant.1 (search rules) (agrees_no _ _ _ _ _ (search rules))
-
-pub loop-unseen-preserved : goal.loop-unseen-preserved
-loop-unseen-preserved c = (search rules, all_goes _ _ _ _ c.loop-unseen.invariant.1 (search rules) (agrees_yes _ _ _ _ _ (search rules)))
-
 pub returns : goal.returns
-returns c = all_ends _ _ _ _ c.loop-unseen.invariant.1 (search rules)
+unfolding agrees
+returns c =
+    agrees_all _ _ _ _ _
+    (all_from_yields_List (agrees c.args.t.now (entry c.args.k) c.args.s.now (entry c.args.i)) _ _ _ c.all.ensures.ran (YieldsList-from_range 0 16 16 refl refl)
+    (λ x b q k. search (rules, tests)))

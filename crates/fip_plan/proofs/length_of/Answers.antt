@@ -7,14 +7,14 @@ use Rattle.fip_plan.proofs.length_of.Goals as goal
 pub returns-then-at-gt-MOST_BYTES : goal.returns-then-at-gt-MOST_BYTES
 returns-then-at-gt-MOST_BYTES c = table_over _ _ c.table_end-at.result (search rules) (search rules)
 
-pub loop-unseen-init : goal.loop-unseen-init
-loop-unseen-init c = (search rules, reached_start _ _ _ (search rules))
+pub loop-k-init : goal.loop-k-init
+loop-k-init c = (search rules, reached_start _ _ _ (search rules))
 
 pub returns-then-at-size : goal.returns-then-at-size
-returns-then-at-size c = capped_over _ (omega (arith, reached_in _ _ _ _ _ c.loop-unseen.invariant.1 c.size_of-size.result (search rules) (search rules)))
+returns-then-at-size c = capped_over _ (omega (arith, reached_in _ _ _ _ c.loop-k.invariant.1 c.size_of-size.result (search rules) (search rules)))
 
-pub loop-unseen-preserved : goal.loop-unseen-preserved
-loop-unseen-preserved c = (search rules, reached_next _ _ _ _ _ c.loop-unseen.invariant.1 _ (search rules) (search rules))
+pub loop-k-preserved : goal.loop-k-preserved
+loop-k-preserved c = (search rules, reached_next _ _ _ _ c.loop-k.invariant.1 _ (search rules) (search rules))
 
 pub returns : goal.returns
-returns c = capped_under _ _ (reached_end _ _ _ _ _ c.loop-unseen.invariant.1 (search rules)) (search rules)
+returns c = capped_under _ _ (reached_end _ _ _ _ c.loop-k.invariant.1 (search rules)) (search rules)

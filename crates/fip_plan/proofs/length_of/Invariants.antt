@@ -3,8 +3,5 @@ use Prim.Native.Nat.{◌≤◌}
 use Rattle.fip_plan.specs.Plan.{Reached}
 use Rattle.fip_plan.proofs.length_of.Given as goal
 
-abbrev pub invariant-loop-unseen : goal.invariant-loop-unseen
-invariant-loop-unseen l = (l.at ≤ 65536) × Reached l.plan l.n l.k l.unseen l.at
-
-abbrev pub decreases-loop-unseen : goal.decreases-loop-unseen
-decreases-loop-unseen l = l.unseen
+abbrev pub invariant-loop-k : goal.invariant-loop-k
+invariant-loop-k l = (l.at ≤ 65536) × Reached l.plan l.n l.k l.at

@@ -4,6 +4,8 @@ use Rattle.rules.specs.Tests.{stops, goes}
 use Rattle.fip_plan.specs.Plan.{hindrances}
 use Rattle.fip_plan.specs.Weighing.{few_are, many_are, weighed_by, weighings}
 use borrow.Author.Rules.{rules}
+use Rattle.fip_plan.proofs.weigh.Goals.{then-n-gt-MOST_IMAGES-via-then-n-gt-MOST_IMAGES, then-n-gt-MOST_IMAGES-via-else-n-gt-MOST_IMAGES+then-has_blank}
+use Rattle.fip_plan.proofs.weigh.Goals.{then-length-gt-MOST_BYTES-via-then-length-gt-MOST_BYTES, then-length-gt-MOST_BYTES-via-else-length-gt-MOST_BYTES+then-space-length}
 use Rattle.fip_plan.proofs.weigh.Goals as goal
 
 pub returns-then-serial-eq0 : goal.returns-then-serial-eq0
@@ -12,11 +14,10 @@ returns-then-serial-eq0 c = weighed_by _ _ _ _ _ _ refl (search weighings depth 
 
 pub returns-then-n-gt-MOST_IMAGES : goal.returns-then-n-gt-MOST_IMAGES
 unfolding hindrances
-returns-then-n-gt-MOST_IMAGES c = weighed_by _ _ _ _ _ _ refl (goes _ _ _ _ _ _ (search weighings depth 8) (stops _ _ _ _ _ _ (many_are c.args.plan.now _ c.slots_of-n.ensures.0 _ (search rules)) refl))
-
-pub returns-then-has_blank : goal.returns-then-has_blank
-unfolding hindrances
-returns-then-has_blank c = weighed_by _ _ _ _ _ _ (few_are c.args.plan.now _ c.slots_of-n.ensures.0 (search rules)) (search weighings depth 8)
+returns-then-n-gt-MOST_IMAGES c = elim c.then-n-gt-MOST_IMAGES.branch [
+  | then-n-gt-MOST_IMAGES-via-then-n-gt-MOST_IMAGES w ↦ weighed_by _ _ _ _ _ _ refl (goes _ _ _ _ _ _ (search weighings depth 8) (stops _ _ _ _ _ _ (many_are c.args.plan.now _ c.slots_of-n.ensures.0 _ (search rules)) refl))
+  | then-n-gt-MOST_IMAGES-via-else-n-gt-MOST_IMAGES+then-has_blank w ↦ weighed_by _ _ _ _ _ _ (few_are c.args.plan.now _ c.slots_of-n.ensures.0 (search rules)) (search weighings depth 8)
+]
 
 pub returns-then-has_twins : goal.returns-then-has_twins
 unfolding hindrances
@@ -28,11 +29,11 @@ returns-then-has_stray c = weighed_by _ _ _ _ _ _ (few_are c.args.plan.now _ c.s
 
 pub returns-then-length-gt-MOST_BYTES : goal.returns-then-length-gt-MOST_BYTES
 unfolding hindrances
-returns-then-length-gt-MOST_BYTES c = weighed_by _ _ _ _ _ _ (few_are c.args.plan.now _ c.slots_of-n.ensures.0 (search rules)) (search weighings depth 8)
-
-pub returns-then-space-length : goal.returns-then-space-length
-unfolding hindrances
-returns-then-space-length c = weighed_by _ _ _ _ _ _ (few_are c.args.plan.now _ c.slots_of-n.ensures.0 (search rules)) (search weighings depth 8)
+returns-then-length-gt-MOST_BYTES c = weighed_by _ _ _ _ _ _ (few_are c.args.plan.now _ c.slots_of-n.ensures.0 (search rules))
+    (elim c.then-length-gt-MOST_BYTES.branch [
+      | then-length-gt-MOST_BYTES-via-then-length-gt-MOST_BYTES w ↦ search weighings depth 8
+      | then-length-gt-MOST_BYTES-via-else-length-gt-MOST_BYTES+then-space-length w ↦ search weighings depth 8
+    ])
 
 pub returns : goal.returns
 unfolding hindrances

@@ -3,6 +3,7 @@ use mathlib.Core.Path.{refl}
 use Rattle.rules.specs.Choice.{first_or, second_or, neither}
 use Rattle.rules.specs.Tests.{judgements, stops, goes, ends, said}
 use Rattle.fip_read.specs.Reading.{faults, judging, length_least}
+use Rattle.fip_read.proofs.judge.Goals.{then-has_stray-via-then-has_stray, then-has_stray-via-else-has_stray+then-is_crowded}
 use Rattle.fip_read.proofs.judge.Goals as goal
 
 pub returns-then-is_wrong_length : goal.returns-then-is_wrong_length
@@ -27,12 +28,10 @@ returns-then-has_twins c = judging _ _ _ c.behind-t.ensures c.count_of-n.ensures
 pub returns-then-has_stray : goal.returns-then-has_stray
 unfolding faults
 returns-then-has_stray c = judging _ _ _ c.behind-t.ensures c.count_of-n.ensures _
-    (search (stops, goes, ends, said, first_or) depth 8)
-
-pub returns-then-is_crowded : goal.returns-then-is_crowded
-unfolding faults
-returns-then-is_crowded c = judging _ _ _ c.behind-t.ensures c.count_of-n.ensures _
-    (search (stops, goes, ends, said, second_or) depth 8)
+    (elim c.then-has_stray.branch [
+      | then-has_stray-via-then-has_stray w ↦ search (stops, goes, said, first_or) depth 8
+      | then-has_stray-via-else-has_stray+then-is_crowded w ↦ search (stops, goes, said, second_or) depth 8
+    ])
 
 pub returns : goal.returns
 unfolding faults

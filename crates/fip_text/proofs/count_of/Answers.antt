@@ -1,13 +1,7 @@
--- `count_of` meets its promise, since its branches are those of the definition.
-use Rattle.rules.specs.Tests.{choices}
-use Rattle.fip_text.specs.Line.{listed}
-use borrow.Author.Rules.{rules}
+-- `count_of` meets its promise, since the definition chooses the lesser.
+use Rattle.std.proofs.Common.{◌∙◌, arith}
+use Rattle.fip_text.specs.Line.{listed_min}
 use Rattle.fip_text.proofs.count_of.Goals as goal
 
-pub returns-then-n-lt-MOST_IMAGES : goal.returns-then-n-lt-MOST_IMAGES
-unfolding listed
-returns-then-n-lt-MOST_IMAGES c = (search choices, search rules)
-
 pub returns : goal.returns
-unfolding listed
-returns c = (search choices, search rules)
+returns c = (c.min.ensures ∙ listed_min _, omega arith)

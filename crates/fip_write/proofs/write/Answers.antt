@@ -1,13 +1,22 @@
--- `write` meets its promise, since a plan that breaks no rule is filled in whole, and of another the space is not touched.
+-- `write` meets its promise, since of a plan that breaks no rule header, entries, end entry and images lie one behind the other, and of
+-- another the space is not touched.
+use Rattle.std.proofs.lemmas.Result.{err_from_is_err_and}
+use Rattle.fip_plan.specs.Weighing.{capped_is}
+use Rattle.fip_write.specs.Laying.{packed_laid}
 use Rattle.fip_write.specs.Writing.{fits, wrote_filled, wrote_not}
-use borrow.Author.Rules.{rules}
 use Rattle.fip_write.proofs.write.Goals as goal
 
-pub fill-requires : goal.fill-requires
-fill-requires c = fits _ _ _ _ _ _ c.weigh-fault.ensures c.if-fault-eq-ACCEPTED.true c.slots_of-n.ensures.0
+pub returns-in_err-weigh : goal.returns-in_err-weigh
+returns-in_err-weigh c = let p = err_from_is_err_and c.from_residual.result c.from_residual.ensures.1 in rw (p.1, p.2) (wrote_not _ _ _ _ _ _ c.in_err-weigh.ensures)
 
-pub returns-then-fault-eq-ACCEPTED : goal.returns-then-fault-eq-ACCEPTED
-returns-then-fault-eq-ACCEPTED c = search (wrote_filled, rules)
+pub put_rows-requires : goal.put_rows-requires
+put_rows-requires c = fits _ _ _ _ _ c.in_ok-weigh.ensures c.slots_of-n.ensures.0
+
+pub put_images-requires : goal.put_images-requires
+put_images-requires c = fits _ _ _ _ _ c.in_ok-weigh.ensures c.slots_of-n.ensures.0
 
 pub returns : goal.returns
-returns c = wrote_not _ _ _ _ _ _ (search rules) (search rules)
+returns c =
+    let f = fits _ _ _ _ _ c.in_ok-weigh.ensures c.slots_of-n.ensures.0 in
+    let e = capped_is _ _ c.length_of-length.ensures f in
+    wrote_filled _ _ _ _ _ _ _ _ c.in_ok-weigh.ensures c.slots_of-n.ensures.0 e (search packed_laid)

@@ -2,8 +2,8 @@
 use Rattle.firmware.specs.Laws.{callings}
 use Rattle.firmware.proofs.chiarumbeta_lent_call.Goals as goal
 
-pub returns-in-Refused : goal.returns-in-Refused
-returns-in-Refused c = search callings
+pub returns-in-Err : goal.returns-in-Err
+returns-in-Err c = search callings
 
-pub returns-in-Called : goal.returns-in-Called
-returns-in-Called c = search callings
+pub returns-in-Ok : goal.returns-in-Ok
+returns-in-Ok c = search callings

@@ -24,8 +24,8 @@ loop-unseen-smaller c = omega (arith, (stride_so _ _ _ c.stride_of-n.ensures).so
 pub loop-unseen-preserved : goal.loop-unseen-preserved
 loop-unseen-preserved c = part_goes _ _ _ _ _ c.loop-unseen.invariant ((stride_so _ _ _ c.stride_of-n.ensures).inside (search rules)) (cc)
 
-pub returns-else-stride_bears : goal.returns-else-stride_bears
-returns-else-stride_bears c = part_stops _ _ _ c.stride_of-n.result _ c.loop-unseen.invariant ((stride_so _ _ _ c.stride_of-n.ensures).inside (search rules)) (cc)
+pub returns-then-not-stride_bears : goal.returns-then-not-stride_bears
+returns-then-not-stride_bears c = part_stops _ _ _ c.stride_of-n.result _ c.loop-unseen.invariant ((stride_so _ _ _ c.stride_of-n.ensures).inside (search rules)) (cc)
 
 pub returns : goal.returns
 returns c = all_ends _ _ _ _ c.loop-unseen.invariant (search rules)

@@ -1,10 +1,6 @@
 -- `hex_read::marks_of` meets its promise: each pass takes in one sign more, its mark and whether it is a digit.
-use Rattle.std.proofs.Common.{◌-◌}
 use Rattle.hex_read.specs.Many.{Scanned}
 use Rattle.hex_read.proofs.marks_of.Given as goal
 
 abbrev pub invariant-loop-i : goal.invariant-loop-i
 invariant-loop-i l = Scanned l.line l.at l.i l.most l.each
-
-abbrev pub decreases-loop-i : goal.decreases-loop-i
-decreases-loop-i l = 128 - l.i

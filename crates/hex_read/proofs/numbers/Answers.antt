@@ -7,10 +7,10 @@ pub returns-then-line-at : goal.returns-then-line-at
 returns-then-line-at c = search (eights, rules)
 
 pub returns-then-m-gt15 : goal.returns-then-m-gt15
-returns-then-m-gt15 c = search (eights, rules)
+returns-then-m-gt15 c = let d = rw c.from-at.ensures at c.marks_of-m.ensures in search (eights, rules)
 
 pub join-requires : goal.join-requires
 join-requires c = search (digits_small, rules)
 
 pub returns : goal.returns
-returns c = search (eights, rules)
+returns c = let d = rw c.from-at.ensures at c.marks_of-m.ensures in search (eights, rules)

@@ -5,14 +5,8 @@ use Rattle.hex_write.proofs.put_digits.Goals as goal
 pub returns-then-out-n : goal.returns-then-out-n
 returns-then-out-n c = down_not _ _ _ _ (search rules)
 
-pub returns-then-out-n-2 : goal.returns-then-out-n-2
-returns-then-out-n-2 c = down_not _ _ _ _ (search rules)
-
-pub loop-left-init : goal.loop-left-init
-loop-left-init c = search (downward, rules)
-
-pub loop-left-preserved : goal.loop-left-preserved
-loop-left-preserved c = search (downward, rules)
+pub loop-i-preserved : goal.loop-i-preserved
+loop-i-preserved c = search (downward, rules)
 
 pub returns : goal.returns
 returns c = search (downward, rules)

@@ -4,8 +4,5 @@ use lib.ListN.{length}
 use Rattle.hex_write.specs.Downward.{Downward}
 use Rattle.hex_write.proofs.put_digits.Given as goal
 
-abbrev pub invariant-loop-left : goal.invariant-loop-left
-invariant-loop-left l = Downward l.initial.out l.out l.at l.n l.x l.left l.y × (l.at + l.n ≤ length l.initial.out)
-
-abbrev pub decreases-loop-left : goal.decreases-loop-left
-decreases-loop-left l = l.left
+abbrev pub invariant-loop-i : goal.invariant-loop-i
+invariant-loop-i l = Downward l.initial.out l.out l.at l.n l.x l.i l.y × (l.at + l.n ≤ length l.initial.out)

@@ -2,9 +2,6 @@ use borrow.Author.Rules.{rules}
 use Rattle.hex_write.specs.Bytes.{lowering}
 use Rattle.hex_write.proofs.put_eight.Goals as goal
 
-pub loop-i-init : goal.loop-i-init
-loop-i-init c = search (lowering, rules)
-
 pub loop-i-preserved : goal.loop-i-preserved
 loop-i-preserved c = search (lowering, rules)
 

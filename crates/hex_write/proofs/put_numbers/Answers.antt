@@ -6,8 +6,5 @@ use Rattle.hex_write.proofs.put_numbers.Goals as goal
 pub returns-then-out-lt64 : goal.returns-then-out-lt64
 returns-then-out-lt64 c = four_not _ _ _ _ _ _ (search rules)
 
-pub returns-then-out-at : goal.returns-then-out-at
-returns-then-out-at c = four_not _ _ _ _ _ _ (search rules)
-
 pub returns : goal.returns
 returns c = four_fit _ _ _ _ _ _ _ _ (search rules) (search rules) (search rules) (search rules) (search rules) c.bytes_of-bs.ensures c.put_pairs.ensures

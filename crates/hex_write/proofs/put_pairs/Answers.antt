@@ -2,9 +2,6 @@ use borrow.Author.Rules.{rules}
 use Rattle.hex_write.specs.Digits.{putting}
 use Rattle.hex_write.proofs.put_pairs.Goals as goal
 
-pub loop-i-init : goal.loop-i-init
-loop-i-init c = search (putting, rules)
-
 pub loop-i-preserved : goal.loop-i-preserved
 loop-i-preserved c = search (putting, rules)
 

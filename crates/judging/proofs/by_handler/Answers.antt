@@ -3,9 +3,9 @@ use Rattle.judgements.specs.Judge.{by_number}
 use Rattle.judging.specs.Laws.{rows}
 use Rattle.judging.proofs.by_handler.Goals as goal
 
-pub returns-in-Is : goal.returns-in-Is
+pub returns-in-Some : goal.returns-in-Some
 unfolding by_number
-returns-in-Is c = search rows depth 20
+returns-in-Some c = search rows depth 20
 
 pub returns-in-0 : goal.returns-in-0
 unfolding by_number

@@ -1,11 +1,8 @@
--- The loop keeps the number of entries equal to the places passed and the entries that are rest.
+-- The loop keeps the number of entries equal to the places passed and the entries that are left.
 use mathlib.Core.Path.{◌≡◌}
-use Prim.Native.Nat.{◌+◌}
+use Prim.Native.Nat.{◌-◌}
 use Rattle.ledger.specs.Places.{used, counted}
 use Rattle.ledger.proofs.used.Given as goal
 
-abbrev pub invariant-loop-rest : goal.invariant-loop-rest
-invariant-loop-rest l = (used l.t ≡ counted l.t l.at l.rest) × (l.at + l.rest ≡ 128)
-
-abbrev pub decreases-loop-rest : goal.decreases-loop-rest
-decreases-loop-rest l = l.rest
+abbrev pub invariant-loop-at : goal.invariant-loop-at
+invariant-loop-at l = used l.t ≡ counted l.t l.at (128 - l.at)

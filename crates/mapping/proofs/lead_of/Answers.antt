@@ -3,8 +3,8 @@ use Rattle.mapping.proofs.Lists.{list_laws}
 use Rattle.std.proofs.Common.{rules}
 use Rattle.mapping.proofs.lead_of.Goals as goal
 
-pub returns-in_default : goal.returns-in_default
-returns-in_default c = search (rules, list_laws)
+pub returns-in_err-m : goal.returns-in_err-m
+returns-in_err-m c = search (rules, list_laws)
 
 pub overflow_sub-address : goal.overflow_sub-address
 overflow_sub-address c = search (rules, list_laws)

@@ -7,18 +7,18 @@ use Rattle.mending.specs.Judged.{meaning, after_line}
 use Rattle.mending.specs.Laws.{meaning_blind}
 use Rattle.mend_console.proofs.serve.Goals as goal
 
-pub loop-left-init : goal.loop-left-init
-loop-left-init g c = serving_none after_line meaning _ _
+pub loop-init : goal.loop-init
+loop-init g c = serving_none after_line meaning _ _
 
 pub returns-then-n-waits : goal.returns-then-n-waits
 returns-then-n-waits g c y =
-    let v = c.loop-left.invariant in
+    let v = c.loop.invariant in
     let f = c.fill-n in
     taken_all after_line meaning _ _ _ _ v _ _ f.ensures.same _ _ _ c.take_read-more.ensures meaning_blind (search rules) (search rules)
 
-pub loop-left-preserved : goal.loop-left-preserved
-loop-left-preserved g c =
-    let v = c.loop-left.invariant in
+pub loop-preserved : goal.loop-preserved
+loop-preserved g c =
+    let v = c.loop.invariant in
     let f = c.fill-n in
     taken_on after_line meaning _ _ _ _ v _ _ f.ensures.same _ _ _ c.take_read-more.ensures f.ensures.more (search rules)
 

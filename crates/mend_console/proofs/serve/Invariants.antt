@@ -1,12 +1,8 @@
 -- Each read goes on where the last one ended.
-use Rattle.frames.specs.Frames.{machine}
 use Rattle.sheets.specs.Sheet.{sheet}
 use Rattle.mend_reads.specs.Reading.{Serving}
 use Rattle.mend_console.proofs.serve.Given as goal
 
-abbrev pub invariant-loop-left : goal.invariant-loop-left
-invariant-loop-left g l =
-    Serving (machine l.initial.setup l.initial.named l.initial.book l.initial.owners l.initial.saved l.initial.powers l.initial.turns l.initial.lists, sheet l.initial.kept l.initial.dropped l.initial.ends) (machine l.setup l.named l.book l.owners l.saved l.powers l.turns l.lists, sheet l.kept l.dropped l.ends) l.buf l.waits
-
-abbrev pub decreases-loop-left : goal.decreases-loop-left
-decreases-loop-left g l = l.left
+abbrev pub invariant-loop : goal.invariant-loop
+invariant-loop g l =
+    Serving (l.initial.machine, sheet l.initial.kept l.initial.dropped l.initial.ends) (l.machine, sheet l.kept l.dropped l.ends) l.buf l.waits

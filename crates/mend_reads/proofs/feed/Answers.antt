@@ -1,32 +1,29 @@
 use borrow.Author.Rules.{rules}
 use Rattle.mend_reads.specs.Reading.{stops, goes_on}
-use Rattle.lines.specs.Input.{insides}
+use Rattle.lines.specs.Input.{inside_some, inside_low, inside_high, reads_on}
 use mathlib.Core.Path.{refl}
 use Rattle.mend_reads.proofs.feed.Goals as goal
 
-pub loop-at-init : goal.loop-at-init
-loop-at-init c = refl
-
-pub returns-in_default : goal.returns-in_default
-returns-in_default c = search (rules, stops)
+pub loop-frame-init : goal.loop-frame-init
+loop-frame-init c = refl
 
 pub overflow_sub-end : goal.overflow_sub-end
-overflow_sub-end c = search (rules, insides)
+overflow_sub-end c = inside_some _ _ _ _ _ c.next_line.ensures c.in-Some.field-0.frame c.in-Some.field-0.after c.in-Some.is
 
 pub slice_bounds-take_line-count : goal.slice_bounds-take_line-count
-slice_bounds-take_line-count c = search (rules, insides)
+slice_bounds-take_line-count c = inside_low _ _ _ _ _ c.next_line.ensures c.in-Some.field-0.frame c.in-Some.field-0.after c.in-Some.is
 
 pub slice_bounds-take_line-start : goal.slice_bounds-take_line-start
-slice_bounds-take_line-start c = search (rules, insides)
+slice_bounds-take_line-start c = let low = inside_low _ _ _ _ _ c.next_line.ensures c.in-Some.field-0.frame c.in-Some.field-0.after c.in-Some.is in let high = inside_high _ _ _ _ _ c.next_line.ensures c.in-Some.field-0.frame c.in-Some.field-0.after c.in-Some.is in search rules
 
 pub slice_bounds-take_line-end : goal.slice_bounds-take_line-end
-slice_bounds-take_line-end c = search (rules, insides)
+slice_bounds-take_line-end c = let low = inside_low _ _ _ _ _ c.next_line.ensures c.in-Some.field-0.frame c.in-Some.field-0.after c.in-Some.is in let high = inside_high _ _ _ _ _ c.next_line.ensures c.in-Some.field-0.frame c.in-Some.field-0.after c.in-Some.is in search rules
 
-pub loop-at-smaller : goal.loop-at-smaller
-loop-at-smaller c = search (rules, insides)
+pub loop-frame-smaller : goal.loop-frame-smaller
+loop-frame-smaller c = reads_on _ _ _ _ _ c.next_line.ensures c.in-Some.field-0.frame c.in-Some.field-0.after c.in-Some.is
 
-pub loop-at-preserved : goal.loop-at-preserved
-loop-at-preserved c = search (rules, goes_on)
+pub loop-frame-preserved : goal.loop-frame-preserved
+loop-frame-preserved c = search (rules, goes_on)
 
 pub returns : goal.returns
 returns c = search (rules, stops)

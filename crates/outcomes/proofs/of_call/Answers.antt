@@ -2,8 +2,8 @@
 use Rattle.outcomes.specs.Laws.{tries}
 use Rattle.outcomes.proofs.of_call.Goals as goal
 
-pub returns-in-Refused : goal.returns-in-Refused
-returns-in-Refused c = search tries
+pub returns-in-Err : goal.returns-in-Err
+returns-in-Err c = search tries
 
-pub returns-in-Called : goal.returns-in-Called
-returns-in-Called c = search tries
+pub returns-in-Ok : goal.returns-in-Ok
+returns-in-Ok c = search tries

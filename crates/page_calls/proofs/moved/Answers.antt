@@ -2,8 +2,8 @@
 use Rattle.page_calls.specs.Laws.{verdicts}
 use Rattle.page_calls.proofs.moved.Goals as goal
 
-pub returns-in-Granted : goal.returns-in-Granted
-returns-in-Granted c = search verdicts
+pub returns-in-Ok : goal.returns-in-Ok
+returns-in-Ok c = search verdicts
 
-pub returns-in-No : goal.returns-in-No
-returns-in-No c = search verdicts
+pub returns-in-Err : goal.returns-in-Err
+returns-in-Err c = search verdicts

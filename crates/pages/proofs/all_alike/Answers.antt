@@ -1,22 +1,12 @@
-use borrow.Author.Rules.{rules}
-use Rattle.tools.specs.Search.{all_goes, all_stops, all_ends}
-use Rattle.pages.specs.Run.{alike, holds_past, holds_it, holds_other}
+-- The chain asks of each page of the run what the definition asks.
+use Rattle.std.proofs.Common.{◌≡◌, ◌+◌, ◌-◌, ◌∙◌, ℕ, arith, rules, eqb}
+use Rattle.std.proofs.lemmas.Iterator.{YieldsList-from_slice}
+use Rattle.std.proofs.lemmas.Iterator.Search.{all_from_yields_List}
+use Rattle.pages.specs.Run.{run_alike}
 use Rattle.pages.proofs.all_alike.Goals as goal
 
-pub loop-unseen-init : goal.loop-unseen-init
-unfolding alike
-loop-unseen-init c = search rules
-
-pub returns-then-page-ge-MOST_PAGES : goal.returns-then-page-ge-MOST_PAGES
-returns-then-page-ge-MOST_PAGES c = all_stops _ _ _ _ c.loop-unseen.invariant (search rules) (holds_past _ _ _ (search rules))
-
-pub returns-then-wide-mark : goal.returns-then-wide-mark
-returns-then-wide-mark c = all_stops _ _ _ _ c.loop-unseen.invariant (search rules)
-    (holds_other _ _ _ _ (search rules) c.wide.ensures (search rules))
-
-pub loop-unseen-preserved : goal.loop-unseen-preserved
-loop-unseen-preserved c = all_goes _ _ _ _ c.loop-unseen.invariant (search rules)
-    (holds_it _ _ _ _ (search rules) c.wide.ensures (search rules))
-
 pub returns : goal.returns
-returns c = all_ends _ _ _ _ c.loop-unseen.invariant (search rules)
+returns c =
+    let n : c.args.first + c.args.count - c.args.first ≡ c.args.count = omega arith in
+    all_from_yields_List (λ (x : ℕ). eqb x c.args.mark) _ _ _ c.all.ensures.ran (YieldsList-from_slice _ (rw (← n) (search rules))) (λ x b q k. search rules)
+    ∙ run_alike c.args.t.now c.args.first c.args.count c.args.mark (search rules) (search rules)

@@ -1,18 +1,9 @@
-use borrow.Author.Rules.{rules}
-use Rattle.pages.specs.Run.{fill_none, fill_starts, fill_goes, fill_ends}
+-- A part of the table that is one mark throughout is what the run's pages make one by one.
+use Rattle.std.proofs.Common.{◌≡◌, ◌+◌, ◌-◌, arith, rules}
+use Rattle.pages.specs.Run.{run_filled}
 use Rattle.pages.proofs.fill.Goals as goal
 
-pub returns-then-first-gt-MOST_PAGES : goal.returns-then-first-gt-MOST_PAGES
-returns-then-first-gt-MOST_PAGES c = fill_none _ _ _ _ (search rules)
-
-pub returns-then-first-count : goal.returns-then-first-count
-returns-then-first-count c = fill_none _ _ _ _ (search rules)
-
-pub loop-unwritten-init : goal.loop-unwritten-init
-loop-unwritten-init c = (search rules, fill_starts _ _ _ _ (search rules))
-
-pub loop-unwritten-preserved : goal.loop-unwritten-preserved
-loop-unwritten-preserved c = (search rules, fill_goes _ _ _ _ _ c.loop-unwritten.invariant.1 (search rules) (search rules))
-
 pub returns : goal.returns
-returns c = fill_ends _ _ _ _ _ c.loop-unwritten.invariant.1 (search rules)
+returns c =
+    let n : c.args.first + c.args.count - c.args.first ≡ c.args.count = omega arith in
+    rw n (run_filled c.args.t.now c.args.first c.args.count c.args.mark (search rules) (search rules) c.fill.new.self _ (c.fill.ensures.after (λ y e. e)) (search rules))

@@ -21,10 +21,10 @@ returns-then-pages-first-2 c = sym (naming_out _ _ _ _ _ _ (range_not _ _ _ _ (Î
 pub returns-then-to-gt-REALM : goal.returns-then-to-gt-REALM
 returns-then-to-gt-REALM c = sym (naming_out _ _ _ _ _ _ (range_not _ _ _ _ (Î» (r : InRange _ _ _ _). omega arith)))
 
-pub returns-then-all_alike : goal.returns-then-all_alike
-returns-then-all_alike c = names_all _ _ _ _ _ _ (record { some = search rules; most = search rules; inside = search rules; world = search rules }) _ _
+pub returns : goal.returns
+returns c = names_all _ _ _ _ _ _ (record { some = search rules; most = search rules; inside = search rules; world = search rules }) _ _
     (not_taken _ _ _ _ c.all_alike.ensures (search rules)) (search rules) (marked_is _ _ _ _ (search rules))
 
-pub returns : goal.returns
-returns c = names_none _ _ _ _ _ _ (record { some = search rules; most = search rules; inside = search rules; world = search rules })
+pub returns-then-not-all_alike : goal.returns-then-not-all_alike
+returns-then-not-all_alike c = names_none _ _ _ _ _ _ (record { some = search rules; most = search rules; inside = search rules; world = search rules })
     (is_taken _ _ _ _ c.all_alike.ensures (search rules) (search rules))

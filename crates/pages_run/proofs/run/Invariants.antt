@@ -1,9 +1,6 @@
--- Each window ends behind where it began, and in the text.
-use Rattle.std.proofs.Common.{length, ◌-◌, ◌≤◌}
+-- Each line that is taken leaves fewer signs.
+use Rattle.std.proofs.Common.{length}
 use Rattle.pages_run.proofs.run.Given as goal
 
-abbrev pub invariant-loop-at : goal.invariant-loop-at
-invariant-loop-at g l = l.at ≤ length l.text
-
-abbrev pub decreases-loop-at : goal.decreases-loop-at
-decreases-loop-at g l = length l.text - l.at
+abbrev pub decreases-loop-line : goal.decreases-loop-line
+decreases-loop-line g l = length l.text.left.now

@@ -1,14 +1,14 @@
 use borrow.Author.Rules.{rules}
-use mathlib.Core.Path.{refl}
-use lib.ListN.{length-set}
+use Rattle.std.proofs.Common.{refl, arith, length-set}
+use native.Mathlib.Numerals.{unary_clauses}
 use Rattle.picture.specs.Picture.{draw_goes, draw_put}
 use Rattle.picture.proofs.draw.Goals as goal
 
-pub loop-unseen-init : goal.loop-unseen-init
-loop-unseen-init c = ((refl, refl), (search rules, refl))
+pub loop-k-init : goal.loop-k-init
+loop-k-init c = (refl, simp unary_clauses)
 
-pub loop-unseen-preserved : goal.loop-unseen-preserved
-loop-unseen-preserved c = ((simp length-set (search rules), search rules), (search rules, draw_goes _ _ _ _ _ _ _ _ c.loop-unseen.invariant.1.1 _ (search rules) (cc)))
+pub loop-k-preserved : goal.loop-k-preserved
+loop-k-preserved c = (simp length-set (search rules), draw_goes _ _ _ _ _ _ _ _ c.loop-k.invariant.1 _ _ _ _ (omega arith) (cc) (omega arith) (omega arith) (omega arith))
 
 pub returns : goal.returns
-returns c = draw_put _ _ _ _ _ _ _ _ _ _ _ c.loop-unseen.invariant.1.1 (search rules) (search rules) (search rules)
+returns c = draw_put _ _ _ _ _ _ _ _ _ _ _ _ c.loop-k.invariant.1 (omega arith) (omega arith) (omega arith) (omega arith)

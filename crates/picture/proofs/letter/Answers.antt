@@ -1,41 +1,10 @@
--- In each arm the owner is known.
-use borrow.Author.Rules.{rules}
-use Rattle.rules.specs.Choice.{pick}
-use Rattle.picture.specs.Picture.{letter_of, letters}
+-- The letter stands in the owner's place.
+use Rattle.std.proofs.Common.{◌≡◌, arith, get_or}
+use Rattle.picture.specs.Picture.{letter_capital, letter_small}
 use Rattle.picture.proofs.letter.Goals as goal
+use Rattle.picture.proofs.letter.Goals.{then-mapped, else-mapped}
 
-pub returns-in-1 : goal.returns-in-1
-unfolding letter_of pick
-returns-in-1 c = search (letters, rules)
-
-pub returns-in-2 : goal.returns-in-2
-unfolding letter_of pick
-returns-in-2 c = search (letters, rules)
-
-pub returns-in-3 : goal.returns-in-3
-unfolding letter_of pick
-returns-in-3 c = search (letters, rules)
-
-pub returns-in_default : goal.returns-in_default
-unfolding letter_of pick
-returns-in_default c = search (letters, rules)
-
-pub returns-in-0 : goal.returns-in-0
-unfolding letter_of pick
-returns-in-0 c = search (letters, rules)
-
-pub returns-in-1-owner : goal.returns-in-1-owner
-unfolding letter_of pick
-returns-in-1-owner c = search (letters, rules)
-
-pub returns-in-2-owner : goal.returns-in-2-owner
-unfolding letter_of pick
-returns-in-2-owner c = search (letters, rules)
-
-pub returns-in-3-owner : goal.returns-in-3-owner
-unfolding letter_of pick
-returns-in-3-owner c = search (letters, rules)
-
-pub returns-in_default-owner : goal.returns-in_default-owner
-unfolding letter_of pick
-returns-in_default-owner c = search (letters, rules)
+pub returns : goal.returns
+returns c =
+    let e : c.unwrap_or.result ≡ get_or c.if-mapped.letters.now c.args.owner 63 = cc (c.get.ensures.lookup.4 (omega arith) 63) in
+    elim c.if-mapped.branch [ then-mapped w ↦ letter_capital _ _ _ c.if-mapped.letters.now e w.if-mapped.true (cc) | else-mapped w ↦ letter_small _ _ _ c.if-mapped.letters.now e w.if-mapped.false (cc) ]

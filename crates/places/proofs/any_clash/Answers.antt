@@ -1,19 +1,7 @@
-use Rattle.places.specs.Table.{place_laws}
-use Rattle.places.specs.Found.{clearing}
-use borrow.Author.Rules.{rules}
+-- The test asks each place whether it clashes.
+use Rattle.std.proofs.Common.{rules, ◌∙◌}
+use Rattle.places.specs.Found.{clash_found}
 use Rattle.places.proofs.any_clash.Goals as goal
 
-pub loop-i-init : goal.loop-i-init
-loop-i-init c = search clearing
-
-pub raw_at-requires : goal.raw_at-requires
-raw_at-requires c = search (rules, place_laws)
-
-pub returns-then-is_clashing : goal.returns-then-is_clashing
-returns-then-is_clashing c = search clearing
-
-pub loop-i-preserved : goal.loop-i-preserved
-loop-i-preserved c = search clearing
-
 pub returns : goal.returns
-returns c = search clearing
+returns c = c.is_some.ensures ∙ clash_found c.args.lists.now c.args.world c.args.m _ (λ j b k. search rules) _ c.lowest.ensures

@@ -3,7 +3,4 @@ use Rattle.places.specs.Decider.{Seen}
 use Rattle.places.proofs.decider.Given as goal
 
 abbrev pub invariant-loop-i : goal.invariant-loop-i
-invariant-loop-i l = Seen l.lists l.world l.address l.initial.i l.i l.best
-
-abbrev pub decreases-loop-i : goal.decreases-loop-i
-decreases-loop-i l = l.i
+invariant-loop-i l = Seen l.lists l.world l.address l.end l.i l.best

@@ -1,21 +1,10 @@
-use Rattle.places.specs.Table.{place_laws}
-use Rattle.places.specs.Found.{searching}
+-- The test asks the question of each place, and a free place answers no.
+use Rattle.std.proofs.Common.{rules, ◌∙◌, refl}
+use Rattle.places.specs.Found.{found_held}
 use Rattle.ranges.specs.Question.{asks_free}
-use borrow.Author.Rules.{rules}
+use Rattle.ranges.specs.declared.Question.TheVariants.{OnRange}
 use Rattle.places.proofs.find_range.Goals as goal
-
-pub loop-i-init : goal.loop-i-init
-loop-i-init c = search searching
-
-pub raw_at-requires : goal.raw_at-requires
-raw_at-requires c = search (rules, place_laws)
-
-pub returns-then-answers : goal.returns-then-answers
-returns-then-answers c = search searching
-
-pub loop-i-preserved : goal.loop-i-preserved
-loop-i-preserved c = search searching
 
 pub returns : goal.returns
 unfolding asks_free
-returns c = search searching
+returns c = c.unwrap_or.ensures ∙ found_held c.args.lists.now c.args.world (OnRange c.args.start c.args.size) _ (λ j b k. search rules) _ c.lowest.ensures refl

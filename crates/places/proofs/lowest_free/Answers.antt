@@ -1,21 +1,11 @@
-use Rattle.places.specs.Table.{place_laws}
-use Rattle.places.specs.Found.{searching_for_room}
+-- The test asks each place whether it is free; where all within the reach are held, the next one is.
+use Rattle.std.proofs.Common.{rules, ◌∙◌, refl}
+use Rattle.places.specs.Found.{found_free}
 use Rattle.ranges.specs.Question.{asks_free}
-use borrow.Author.Rules.{rules}
+use Rattle.ranges.specs.declared.Question.TheVariants.{Free}
 use Rattle.places.proofs.lowest_free.Goals as goal
-
-pub loop-i-init : goal.loop-i-init
-loop-i-init c = search searching_for_room
-
-pub raw_at-requires : goal.raw_at-requires
-raw_at-requires c = search (rules, place_laws)
-
-pub returns-then-answers : goal.returns-then-answers
-returns-then-answers c = search searching_for_room
-
-pub loop-i-preserved : goal.loop-i-preserved
-loop-i-preserved c = search searching_for_room
 
 pub returns : goal.returns
 unfolding asks_free
-returns c = search searching_for_room
+returns c = c.unwrap_or.ensures ∙
+    (rw (← c.reach_of.ensures) at (found_free c.args.lists.now c.args.world Free _ (λ j b k. search rules) _ c.lowest.ensures refl))

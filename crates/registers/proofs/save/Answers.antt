@@ -2,14 +2,8 @@ use Rattle.registers.specs.Registers.{writing}
 use borrow.Author.Rules.{rules}
 use Rattle.registers.proofs.save.Goals as goal
 
-pub returns-in_default : goal.returns-in_default
-returns-in_default c = search writing
-
 pub loop-i-init : goal.loop-i-init
 loop-i-init c = search writing
 
 pub loop-i-preserved : goal.loop-i-preserved
 loop-i-preserved c = search (rules, writing)
-
-pub returns : goal.returns
-returns c = search (rules, writing)

@@ -8,13 +8,13 @@ pub returns-in_default : goal.returns-in_default
 returns-in_default c = search reading
 
 pub overflow_add-e : goal.overflow_add-e
-overflow_add-e c = let h = start_fits _ _ _ _ c.in-At.ensures refl in search rules
+overflow_add-e c = let h = start_fits _ _ _ _ c.in-Some.ensures refl in search rules
 
 pub offset_bounds-s-a : goal.offset_bounds-s-a
-offset_bounds-s-a c = let h = start_fits _ _ _ _ c.in-At.ensures refl in search rules
+offset_bounds-s-a c = let h = start_fits _ _ _ _ c.in-Some.ensures refl in search rules
 
 pub slice_bounds-shown_in-end : goal.slice_bounds-shown_in-end
-slice_bounds-shown_in-end c = let h = start_fits _ _ _ _ c.in-At.ensures refl in search rules
+slice_bounds-shown_in-end c = let h = start_fits _ _ _ _ c.in-Some.ensures refl in search rules
 
 pub returns : goal.returns
 returns c = search reading

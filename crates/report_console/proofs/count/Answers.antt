@@ -1,15 +1,6 @@
--- Every table is made as it is before the first frame, and the loop starts from there.
+-- The machine is made as it is before the first frame, and the loop starts from there.
 use Rattle.reporting.specs.Reading.{ran_noted}
 use Rattle.report_console.proofs.count.Goals as goal
 
 pub returns : goal.returns
-returns g c y =
-    ran_noted _ _ _ _ _ _ _ _ _ _ _ _ c.serve.ensures y
-    c.fresh-setup.ensures
-    c.fresh_named-named.ensures
-    c.fresh-book.ensures
-    c.fresh_owners-owners.ensures
-    c.fresh-saved.ensures
-    c.fresh_powers-powers.ensures
-    c.fresh_turns-turns.ensures
-    c.fresh-lists.ensures
+returns g c y = ran_noted _ _ _ _ _ c.serve.ensures y c.fresh-machine.ensures

@@ -4,17 +4,17 @@ use Rattle.rules.specs.Choice.{yes_or_no}
 use Rattle.reporting.specs.Reading.{serving_none, serving_on, served_all}
 use Rattle.report_console.proofs.serve.Goals as goal
 
-pub loop-left-init : goal.loop-left-init
-loop-left-init g c = search serving_none
+pub loop-init : goal.loop-init
+loop-init g c = search serving_none
 
 pub returns-then-n-kept : goal.returns-then-n-kept
 returns-then-n-kept g c y =
-    let v = c.loop-left.invariant in
+    let v = c.loop.invariant in
     let f = c.fill-n in
     served_all _ _ _ _ v _ _ f.ensures.same _ _ _ c.take_read-waits.ensures (search rules) (search rules)
 
-pub loop-left-preserved : goal.loop-left-preserved
-loop-left-preserved g c = search (rules, serving_on)
+pub loop-preserved : goal.loop-preserved
+loop-preserved g c = search (rules, serving_on)
 
 pub returns : goal.returns
 returns g c y = absurd (yes_or_no _ y refl)

@@ -1,11 +1,7 @@
 -- Each read goes on where the last one ended.
-use Rattle.frames.specs.Frames.{machine}
 use Rattle.reporting.specs.Reading.{Serving}
 use Rattle.report_console.proofs.serve.Given as goal
 
-abbrev pub invariant-loop-left : goal.invariant-loop-left
-invariant-loop-left g l =
-    Serving (machine l.initial.setup l.initial.named l.initial.book l.initial.owners l.initial.saved l.initial.powers l.initial.turns l.initial.lists, l.initial.tally) (machine l.setup l.named l.book l.owners l.saved l.powers l.turns l.lists, l.tally) l.buf l.kept
-
-abbrev pub decreases-loop-left : goal.decreases-loop-left
-decreases-loop-left g l = l.left
+abbrev pub invariant-loop : goal.invariant-loop
+invariant-loop g l =
+    Serving (l.initial.machine, l.initial.tally) (l.machine, l.tally) l.buf l.kept

@@ -1,9 +1,10 @@
--- In each arm it is known where the run lies.
+-- Where the run lies in the window, its span is told, and else none.
+use Rattle.std.proofs.Common.{rules}
 use Rattle.spans.specs.Laws.{lyings}
 use Rattle.spans.proofs.span_of.Goals as goal
 
-pub returns-in-Page : goal.returns-in-Page
-returns-in-Page c = search lyings
+pub returns-in_err-first : goal.returns-in_err-first
+returns-in_err-first c = search (rules, lyings)
 
-pub returns-in-Outside : goal.returns-in-Outside
-returns-in-Outside c = search lyings
+pub returns : goal.returns
+returns c = search (rules, lyings)

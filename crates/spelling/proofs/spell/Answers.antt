@@ -3,10 +3,10 @@ use borrow.Author.Rules.{rules}
 use Rattle.spelling.proofs.spell.Goals as goal
 
 pub loop-i-init : goal.loop-i-init
-loop-i-init c = (search rules, spelling_starts _ _)
+loop-i-init c = spelling_starts _ _
 
 pub loop-i-preserved : goal.loop-i-preserved
-loop-i-preserved c = (search rules, spelling_goes _ _ _ _ _ _ _ c.loop-i.invariant.1 (search rules) (search rules) c.put_number.ensures)
+loop-i-preserved c = spelling_goes _ _ _ _ _ _ _ c.loop-i.invariant (search rules) (search rules) c.put_number.ensures
 
 pub returns : goal.returns
-returns c = spelling_ends _ _ _ _ c.loop-i.invariant.1 (search rules) (search rules)
+returns c = spelling_ends _ _ _ _ c.loop-i.invariant (search rules) (search rules)

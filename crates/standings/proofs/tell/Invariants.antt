@@ -4,8 +4,8 @@ use Rattle.endings.specs.Rest.{lines_from}
 use Rattle.standings.specs.Written.{Telling}
 use Rattle.standings.proofs.tell.Given as goal
 
-abbrev pub invariant-loop-chunk : goal.invariant-loop-chunk
-invariant-loop-chunk g l = Telling l.lines l.setup l.owners l.origins l.powers l.turns l.lists l.initial.part l.initial.out l.part l.out
+abbrev pub invariant-loop-ending : goal.invariant-loop-ending
+invariant-loop-ending g l = Telling l.ending.lines.now l.ending.setup.now l.ending.owners.now l.ending.origins.now l.ending.powers.now l.ending.turns.now l.ending.lists.now l.initial.part l.initial.out l.part l.out
 
-abbrev pub decreases-loop-chunk : goal.decreases-loop-chunk
-decreases-loop-chunk g l = length (lines_from l.lines l.setup l.owners l.origins l.powers l.turns l.lists l.part)
+abbrev pub decreases-loop-ending : goal.decreases-loop-ending
+decreases-loop-ending g l = length (lines_from l.ending.lines.now l.ending.setup.now l.ending.owners.now l.ending.origins.now l.ending.powers.now l.ending.turns.now l.ending.lists.now l.part)

@@ -6,9 +6,9 @@ use mathlib.Core.Path.{◌≡◌}
 use Rattle.inputs.specs.Fed.{stand, fed}
 use Rattle.stream.proofs.feed.Given as goal
 
-abbrev pub invariant-loop-at : goal.invariant-loop-at
-invariant-loop-at l = (fed l.chunk (stand (machine l.setup l.named l.book l.owners l.saved l.powers l.turns l.lists) l.at l.put l.out) ≡ fed l.chunk (stand (machine l.initial.setup l.initial.named l.initial.book l.initial.owners l.initial.saved l.initial.powers l.initial.turns l.initial.lists) l.initial.at l.initial.put l.initial.out))
+abbrev pub invariant-loop-out : goal.invariant-loop-out
+invariant-loop-out l = (fed l.chunk (stand (machine l.setup l.named l.book l.owners l.saved l.powers l.turns l.lists) l.at l.put l.out) ≡ fed l.chunk (stand (machine l.initial.setup l.initial.named l.initial.book l.initial.owners l.initial.saved l.initial.powers l.initial.turns l.initial.lists) l.initial.at l.initial.put l.initial.out))
     × (l.put ≤ length l.out) × (length l.out ≡ length l.initial.out)
 
-abbrev pub decreases-loop-at : goal.decreases-loop-at
-decreases-loop-at l = length l.chunk - l.at
+abbrev pub decreases-loop-out : goal.decreases-loop-out
+decreases-loop-out l = length l.chunk - l.at

@@ -4,10 +4,10 @@ use mathlib.Core.Path.{refl}
 use Rattle.table_files.proofs.load.Goals as goal
 
 pub loop-i-init : goal.loop-i-init
-loop-i-init c = (search rules, none_laid _ _)
+loop-i-init c = none_laid _ _
 
 pub loop-i-preserved : goal.loop-i-preserved
-loop-i-preserved c = (search rules, one_laid _ _ _ _ c.loop-i.invariant.1 _ _ (search rules) refl)
+loop-i-preserved c = one_laid _ _ _ _ c.loop-i.invariant _ _ (search rules) refl
 
 pub returns : goal.returns
-returns c = all_laid _ _ _ _ c.loop-i.invariant.1 32768 c.loop-i.invariant.0 (search rules)
+returns c = all_laid _ _ _ _ c.loop-i.invariant 32768 (search rules) (search rules)

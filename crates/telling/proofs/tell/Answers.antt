@@ -1,22 +1,17 @@
--- `tell` meets its promise, a frame at a time.
+-- In each arm the frame is known.
 use borrow.Author.Rules.{rules}
-use Rattle.telling.specs.Telling.{tells}
+use Rattle.telling.specs.Telling.{tells, sentence_of}
 use Rattle.telling.proofs.tell.Goals as goal
+use Rattle.telling.proofs.tell.Goals.{in-Site, in-Entry, in-Name, in-Call, in-Arrival, in-Refused}
 
-pub returns-in-Site : goal.returns-in-Site
-returns-in-Site c = search (tells, rules)
-
-pub returns-in-Entry : goal.returns-in-Entry
-returns-in-Entry c = search (tells, rules)
-
-pub returns-in-Name : goal.returns-in-Name
-returns-in-Name c = search (tells, rules)
-
-pub returns-in-Call : goal.returns-in-Call
-returns-in-Call c = search (tells, rules)
-
-pub returns-in-Arrival : goal.returns-in-Arrival
-returns-in-Arrival c = search (tells, rules)
-
-pub returns-in-Refused : goal.returns-in-Refused
-returns-in-Refused c = search (tells, rules)
+pub returns : goal.returns
+unfolding sentence_of
+returns c =
+    elim c.match-frame.branch [
+      | in-Site w ↦ search (tells, rules)
+      | in-Entry w ↦ search (tells, rules)
+      | in-Name w ↦ search (tells, rules)
+      | in-Call w ↦ search (tells, rules)
+      | in-Arrival w ↦ search (tells, rules)
+      | in-Refused w ↦ search (tells, rules)
+    ]

@@ -2,8 +2,8 @@
 use Rattle.tracing.specs.Laws.{notes}
 use Rattle.tracing.proofs.note.Goals as goal
 
-pub returns-in-Pages : goal.returns-in-Pages
-returns-in-Pages c = search notes
+pub returns-in-Some : goal.returns-in-Some
+returns-in-Some c = search notes
 
-pub returns-in-NoPages : goal.returns-in-NoPages
-returns-in-NoPages c = search notes
+pub returns-in-None : goal.returns-in-None
+returns-in-None c = search notes

@@ -1,14 +1,16 @@
 -- `put_text` meets its promise: the text is laid whole where it fits, and not at all where it does not.
-use mathlib.Core.Path.{refl}
-use Rattle.tools.specs.Laid.{put_fits, put_not}
-use borrow.Author.Rules.{rules}
+use Rattle.std.proofs.Common.{arith, refl}
+use Rattle.tools.specs.Laid.{put_not}
+use Rattle.writing.specs.Pieces.{copied_over}
 use Rattle.writing.proofs.put_text.Goals as goal
+use Rattle.writing.proofs.put_text.Goals.{then-out-n-via-then-out-n, then-out-n-via-else-out-n+then-out-n-2}
 
 pub returns-then-out-n : goal.returns-then-out-n
-returns-then-out-n c = put_not _ _ _ _ refl (search rules)
-
-pub returns-then-out-n-2 : goal.returns-then-out-n-2
-returns-then-out-n-2 c = put_not _ _ _ _ refl (search rules)
+returns-then-out-n c =
+    elim c.then-out-n.branch [
+      | then-out-n-via-then-out-n w ↦ put_not _ _ _ _ refl (omega arith)
+      | then-out-n-via-else-out-n+then-out-n-2 w ↦ put_not _ _ _ _ refl (omega arith)
+    ]
 
 pub returns : goal.returns
-returns c = put_fits _ _ _ _ refl _ (search rules) c.lay_text.ensures
+returns c = copied_over _ _ _ _ _ refl c.copy_from_slice.ensures.after (omega arith)

@@ -1,18 +1,15 @@
-use Rattle.tools.specs.Search.{any_goes, any_stops, any_ends}
-use Rattle.conversions.specs.Laws.{byte_stray, byte_owner}
-use Rattle.conversions.specs.Conversions.{stray_bytes}
-use borrow.Author.Rules.{rules}
+-- `has_stray_byte` meets its promise, since it tries each byte of the range.
+use Rattle.std.proofs.Common.{rules, tests, refl, ◌∙◌}
+use Rattle.std.proofs.lemmas.Iterator.{YieldsList-from_range}
+use Rattle.std.proofs.lemmas.Iterator.Search.{any_from_yields_List}
+use Rattle.conversions.specs.Laws.{any_listed, byte_judged}
+use Rattle.conversions.specs.Conversions.{stray_byte, stray_bytes}
+use native.Mathlib.Omega.{arith}
 use Rattle.conversions.proofs.bytes.has_stray_byte.Goals as goal
 
-pub loop-unseen-init : goal.loop-unseen-init
-unfolding stray_bytes
-loop-unseen-init c = search rules
-
-pub returns-then-owner-gt-REALM : goal.returns-then-owner-gt-REALM
-returns-then-owner-gt-REALM c = any_stops _ _ _ _ c.loop-unseen.invariant.1 (search rules) (byte_stray _ _ _ c.owner.ensures (search rules))
-
-pub loop-unseen-preserved : goal.loop-unseen-preserved
-loop-unseen-preserved c = (search rules, any_goes _ _ _ _ c.loop-unseen.invariant.1 (search rules) (byte_owner _ _ _ c.owner.ensures (search rules)))
-
 pub returns : goal.returns
-returns c = any_ends _ _ _ _ c.loop-unseen.invariant.1 (search rules)
+unfolding stray_bytes
+returns c =
+    any_from_yields_List (stray_byte c.args.bytes.now) _ _ _ c.any.ensures.ran (YieldsList-from_range 0 c.from.result c.args.n refl (omega (arith, c.from.ensures)))
+    (λ x b q k. search (byte_judged, rules, tests))
+    ∙ any_listed _ 0 c.args.n

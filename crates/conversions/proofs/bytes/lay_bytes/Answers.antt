@@ -1,15 +1,12 @@
-use Rattle.conversions.specs.Laws.{laying_starts, laying_goes, laying_past, laying_ends}
+use Rattle.conversions.specs.Laws.{laying_starts, laying_goes, laying_ends}
 use borrow.Author.Rules.{rules}
 use Rattle.conversions.proofs.bytes.lay_bytes.Goals as goal
 
-pub loop-unwritten-init : goal.loop-unwritten-init
-loop-unwritten-init c = (search rules, laying_starts _ _ _)
+pub loop-page-init : goal.loop-page-init
+loop-page-init c = laying_starts _ _ _
 
-pub returns-then-bytes-page : goal.returns-then-bytes-page
-returns-then-bytes-page c = laying_past _ _ _ _ _ _ c.loop-unwritten.invariant.1 (search rules)
-
-pub loop-unwritten-preserved : goal.loop-unwritten-preserved
-loop-unwritten-preserved c = (search rules, laying_goes _ _ _ _ _ _ c.loop-unwritten.invariant.1 _ (search rules) (search rules))
+pub loop-page-preserved : goal.loop-page-preserved
+loop-page-preserved c = laying_goes _ _ _ _ _ _ c.loop-page.invariant _ (search rules) c.byte_for.ensures
 
 pub returns : goal.returns
-returns c = laying_ends _ _ _ _ _ _ c.loop-unwritten.invariant.1 (search rules)
+returns c = laying_ends _ _ _ _ _ _ c.loop-page.invariant (search rules)

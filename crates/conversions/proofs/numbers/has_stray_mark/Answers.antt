@@ -1,18 +1,16 @@
-use Rattle.rules.specs.Tests.{said}
-use Rattle.tools.specs.Search.{any_goes, any_stops, any_ends}
-use Rattle.conversions.specs.Conversions.{stray_marks}
-use borrow.Author.Rules.{rules}
+-- `has_stray_mark` meets its promise, since it tries each mark of the range.
+use Rattle.std.proofs.Common.{rules, tests, refl, ◌∙◌, ◌*◌}
+use Rattle.std.proofs.lemmas.Iterator.{YieldsList-from_range}
+use Rattle.std.proofs.lemmas.Iterator.Search.{any_from_yields_List}
+use Rattle.conversions.specs.Laws.{any_listed}
+use Rattle.conversions.specs.Conversions.{numbers_for, stray_mark, stray_marks}
+use native.Mathlib.Omega.{arith}
 use Rattle.conversions.proofs.numbers.has_stray_mark.Goals as goal
 
-pub loop-unseen-init : goal.loop-unseen-init
-unfolding stray_marks
-loop-unseen-init c = (search rules, rw c.numbers_for-unseen.ensures.0)
-
-pub returns-then-is_stray : goal.returns-then-is_stray
-returns-then-is_stray c = any_stops _ _ _ _ c.loop-unseen.invariant.1 (search rules) (search said)
-
-pub loop-unseen-preserved : goal.loop-unseen-preserved
-loop-unseen-preserved c = (search rules, any_goes _ _ _ _ c.loop-unseen.invariant.1 (search rules) (search said))
-
 pub returns : goal.returns
-returns c = any_ends _ _ _ _ c.loop-unseen.invariant.1 (search rules)
+unfolding stray_marks
+returns c =
+    any_from_yields_List (stray_mark c.args.n c.args.numbers.now) _ _ _ c.any.ensures.ran
+    (YieldsList-from_range 0 (16 * c.numbers_for.result) (16 * numbers_for c.args.n) refl (omega (arith, c.numbers_for.ensures)))
+    (λ x b q k. search (rules, tests))
+    ∙ any_listed _ 0 (16 * numbers_for c.args.n)

@@ -3,8 +3,8 @@ use Rattle.conversions.specs.Laws.{mark_read, mark_missing}
 use borrow.Author.Rules.{rules}
 use Rattle.conversions.proofs.numbers.mark.Goals as goal
 
-pub returns-then-numbers-i : goal.returns-then-numbers-i
-returns-then-numbers-i c = search (mark_missing, rules)
+pub returns-in-Some : goal.returns-in-Some
+returns-in-Some c = mark_read _ _ _ _ (search rules) c.read.ensures
 
-pub returns : goal.returns
-returns c = mark_read _ _ _ _ (search rules) c.read.ensures
+pub returns-in-None : goal.returns-in-None
+returns-in-None c = search (mark_missing, rules)

@@ -1,10 +1,10 @@
--- `names::put_name` meets its promise, since the name is the part of its row before the dots.
+-- `names::put_name` meets its promise, since the name stands behind a space.
+use Rattle.std.proofs.Common.{rules}
 use Rattle.fip_text.specs.Rows.{name_put, name_none}
-use borrow.Author.Rules.{rules}
 use Rattle.fip_text.proofs.names.put_name.Goals as goal
 
-pub returns-then-k-lt-ROWS : goal.returns-then-k-lt-ROWS
-returns-then-k-lt-ROWS c = (search (name_put, rules), search rules)
+pub returns-in-Some : goal.returns-in-Some
+returns-in-Some c = name_put _ _ _ _ _ _ _ _ c.in-Some.ensures.0 c.in-Some.ensures.1 c.put_text-a.ensures c.put_text.ensures
 
-pub returns : goal.returns
-returns c = (search (name_none, rules), search rules)
+pub returns-in-None : goal.returns-in-None
+returns-in-None c = (name_none _ _ _ c.in-None.ensures, search rules)

@@ -1,12 +1,7 @@
-use Rattle.writing.specs.Pieces.{copying}
-use borrow.Author.Rules.{rules}
+-- `pieces::put_text` meets its promise, since there is room for the text.
+use Rattle.std.proofs.Common.{rules}
+use Rattle.fip_text.specs.Line.{stands_put}
 use Rattle.fip_text.proofs.pieces.put_text.Goals as goal
 
-pub loop-i-init : goal.loop-i-init
-loop-i-init c = search (copying, rules)
-
-pub loop-i-preserved : goal.loop-i-preserved
-loop-i-preserved c = search (copying, rules)
-
 pub returns : goal.returns
-returns c = search (copying, rules)
+returns c = search (stands_put, rules)

@@ -7,8 +7,8 @@ use Rattle.vetting.proofs.free.free_until.Goals as goal
 pub overflow_add-result : goal.overflow_add-result
 overflow_add-result c = omega (arith, steady_fits _ _ _ _ c.steady.ensures)
 
-pub returns-in-To : goal.returns-in-To
-returns-in-To c = free_empty _ _
+pub returns-in-Some : goal.returns-in-Some
+returns-in-Some c = free_empty _ _
 
-pub returns-in-Nowhere : goal.returns-in-Nowhere
-returns-in-Nowhere c = search (rules, free_steady)
+pub returns-in-None : goal.returns-in-None
+returns-in-None c = search (rules, free_steady)

@@ -1,7 +1,0 @@
--- Each piece stands behind those before it.
-use borrow.Author.Rules.{rules}
-use Rattle.standing.specs.Standing.{pieces}
-use Rattle.standing.proofs.maps_said.Goals as goal
-
-pub returns : goal.returns
-returns c = search (pieces, rules)

@@ -1,5 +1,0 @@
--- Each piece stands behind those before it.
-use Rattle.standing.proofs.outside_said.Goals as goal
-
-pub returns : goal.returns
-returns c = cc
