@@ -99,6 +99,12 @@ unfolding value
 value_small l at zero = omega arith
 value_small l at (suc n) = let v = value_small l at n in rw pow-suc (omega arith)
 
+-- past the end there is no sign, and a number is 0
+pub value_past : (l : List ℕ) (at n : ℕ) → length l ≤ at → 0 ≡ value l at n
+unfolding value
+value_past l at zero h = refl
+value_past l at (suc n) h = let v = value_past l at n h in let d = digit_past l (at + n) (omega arith) in omega arith
+
 -- at most sixteen digits fit a word
 fits_word : (n : ℕ) → n ≤ 16 → 16 ^ n ≤ 18446744073709551616
 fits_word n h = pow-le-pow_right {n = 16} (omega arith) h

@@ -57,7 +57,7 @@ pub fn byte_at(line: &[u8], k: u8) -> Option<u64>
 }
 
 // The number that n signs of a line stand for, of sixteen at most, from a place on. A sign that is no digit counts nothing.
-pub fn value(line: &[u8], at: usize, n: usize) -> u64
+fn read(line: &[u8], at: usize, n: usize) -> u64
     requires few { n ≤ 16 }
     requires in_reach { at + n < 2 ^ 64 }
     ensures { result ≡ value line.now at n }
@@ -69,11 +69,22 @@ pub fn value(line: &[u8], at: usize, n: usize) -> u64
     x
 }
 
+// The same from any place on, and past the end no sign counts.
+#[tactic(auto, using(crate::specs::Read::value_past))]
+pub fn value(line: &[u8], at: usize, n: usize) -> u64
+    ensures { result ≡ value line.now at (min n 16) }
+{
+    if line.len() <= at {
+        return 0;
+    }
+    read(line, at, n.min(16))
+}
+
 // The number in n bytes of a line, of eight at most, from byte k on, in the same way.
 pub fn number(line: &[u8], k: u8, n: u8) -> u64
     ensures { result ≡ number line.now k (min n 8) }
 {
-    value(line, usize::from(k) * 2, usize::from(n.min(8)) * 2)
+    read(line, usize::from(k) * 2, usize::from(n.min(8)) * 2)
 }
 
 // Two bytes in the other order.

@@ -1,6 +1,6 @@
 use borrow.Author.Rules.{rules}
 use Rattle.hex_digits.specs.Read.{reading}
-use Rattle.hex_digits.proofs.value.Goals as goal
+use Rattle.hex_digits.proofs.read.Goals as goal
 
 pub loop-i-init : goal.loop-i-init
 loop-i-init c = search (reading, rules)
