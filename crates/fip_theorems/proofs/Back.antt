@@ -18,6 +18,7 @@ use Rattle.fip_read.specs.Reading.{behind, entries, judged, tabled, doubts, loca
 use Rattle.fip_table.specs.Meaning.{zero_blank}
 use Rattle.fip_read.specs.Accepted.{Sound, sound_accepted, found_by_name}
 use Rattle.fip_entries.specs.declared.Fault.TheVariants.{NoImage}
+use Rattle.fip_entries.specs.Faults.{status_of}
 use Rattle.fip_lay.specs.Bytes.{spell, copied, copied_is}
 use Rattle.fip_plan.specs.Plan.{total, planned}
 use Rattle.fip_write.specs.Packed.{header, row, packed, length_packed}
@@ -161,11 +162,15 @@ module _ (serial flags : ℕ) (d pool : List ℕ) (space : ℕ) (u32 : serial < 
       ∙ packed_image serial flags d pool n k h ∙ copied_is pool (offset d k) (size d k) (f.inside k h))
 
   -- ---- no image
-  refused_as : (id : List ℕ) → (same id 0 zeros 0 || not (ltb (sought t (entries p) id) (entries p))) ≡ true → located p id ≡ Err NoImage
+  not_found : (id : List ℕ) → (same id 0 zeros 0 || not (ltb (sought t (entries p) id) (entries p))) ≡ true → located p id ≡ Err NoImage
   unfolding located doubts
-  refused_as id e = rw accepted (sym (stops _ _ _ _ _ _ e refl))
+  not_found id e = rw accepted (sym (stops _ _ _ _ _ _ e refl))
 
-  absent : (id : List ℕ) → length id ≡ 16 → ((k : ℕ) → k < n → id ≡ identifier d k → ⊥) → located p id ≡ Err NoImage
+  refused_as : (id : List ℕ) → (same id 0 zeros 0 || not (ltb (sought t (entries p) id) (entries p))) ≡ true → (located p id ≡ Err NoImage) × (status_of (located p id) ≡ 0x86)
+  unfolding status_of
+  refused_as id e = let f = not_found id e in (f, rw f refl)
+
+  absent : (id : List ℕ) → length id ≡ 16 → ((k : ℕ) → k < n → id ≡ identifier d k → ⊥) → (located p id ≡ Err NoImage) × (status_of (located p id) ≡ 0x86)
   unfolding sought holds
   absent id e g =
       let k = sought t (entries p) id in

@@ -3,7 +3,7 @@ use Rattle.std.specs.Prelude.{◌≡◌, Bool, true, ℕ, ◌+◌, ◌*◌, ◌<
 use mathlib.Core.List.{List, [], ◌∷◌, Memᴰ}
 use Rattle.fip_entries.specs.declared.Fault.{Fault}
 use Rattle.fip_entries.specs.declared.Fault.TheVariants.{NoImage}
-use Rattle.fip_entries.specs.Faults.{number_of}
+use Rattle.fip_entries.specs.Faults.{number_of, status_of}
 use Rattle.fip_entries.specs.Numbers.{four, eight}
 use Rattle.fip_entries.specs.Entries.{entry, zeros}
 use Rattle.fip_table.specs.Table.{table_end}
@@ -58,9 +58,9 @@ pub record Package (serial flags : ℕ) (d pool p : List ℕ) : Type 0 where
   -- What is found is the image that was given, byte for byte.
   pub given_back : (k : ℕ) → k < planned d → part_of p (located p (identifier d k)) ≡ image d pool k
   -- An identifier that no image of the plan has is refused as not found, which has the number 86 hex.
-  pub absent : (id : List ℕ) → length id ≡ 16 → ((k : ℕ) → k < planned d → id ≡ identifier d k → ⊥) → located p id ≡ Err NoImage
+  pub absent : (id : List ℕ) → length id ≡ 16 → ((k : ℕ) → k < planned d → id ≡ identifier d k → ⊥) → (located p id ≡ Err NoImage) × (status_of (located p id) ≡ 0x86)
   -- So is the one of zeros alone.
-  pub zeros_absent : located p zeros ≡ Err NoImage
+  pub zeros_absent : (located p zeros ≡ Err NoImage) × (status_of (located p zeros) ≡ 0x86)
 
 -- ---- what is so of a write that answers thus and leaves o' of the space o
 -- where the plan breaks no rule
