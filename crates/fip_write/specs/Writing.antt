@@ -37,8 +37,8 @@ module _ (serial : ℕ) (d : List ℕ) (room space n : ℕ) (e : Ok tt ≡ weigh
   all_planned : n ≡ planned d
   all_planned = q ∙ few_slots d (few_planned serial d room space (sym e))
 
-  pub fits : total d n ≤ 65536
-  fits = rw all_planned (short_planned serial d room space (sym e))
+  pub fits : (n ≤ 64) × (total d n ≤ 65536)
+  fits = rw all_planned (few_planned serial d room space (sym e), short_planned serial d room space (sym e))
 
 pub wrote_filled :
     (serial flags : ℕ) (d pool o : List ℕ) (n r : ℕ) (p : List ℕ) → Ok tt ≡ weighed serial d (length pool) (length o) → n ≡ slots (length d) →

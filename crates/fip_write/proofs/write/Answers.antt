@@ -10,13 +10,13 @@ pub returns-in_err-weigh : goal.returns-in_err-weigh
 returns-in_err-weigh c = let p = err_from_is_err_and c.from_residual.result c.from_residual.ensures.1 in rw (p.1, p.2) (wrote_not _ _ _ _ _ _ c.in_err-weigh.ensures)
 
 pub put_rows-requires : goal.put_rows-requires
-put_rows-requires c = fits _ _ _ _ _ c.in_ok-weigh.ensures c.slots_of-n.ensures.0
+put_rows-requires c = (fits _ _ _ _ _ c.in_ok-weigh.ensures c.slots_of-n.ensures.0).1
 
 pub put_images-requires : goal.put_images-requires
-put_images-requires c = fits _ _ _ _ _ c.in_ok-weigh.ensures c.slots_of-n.ensures.0
+put_images-requires c = (fits _ _ _ _ _ c.in_ok-weigh.ensures c.slots_of-n.ensures.0).1
 
 pub returns : goal.returns
 returns c =
-    let f = fits _ _ _ _ _ c.in_ok-weigh.ensures c.slots_of-n.ensures.0 in
+    let f = (fits _ _ _ _ _ c.in_ok-weigh.ensures c.slots_of-n.ensures.0).1 in
     let e = capped_is _ _ c.length_of-length.ensures f in
     wrote_filled _ _ _ _ _ _ _ _ c.in_ok-weigh.ensures c.slots_of-n.ensures.0 e (search packed_laid)
