@@ -14,12 +14,13 @@ mod spaces;
 use converting::Fault;
 use reading::{Conversion, Way};
 use signs::Signs;
+use spaces::{ROOM, Space};
 use std::io;
 
-fn convert(c: &mut Conversion) -> Result<(), Fault> {
+fn convert(c: Conversion, bytes: &mut [u8], numbers: &mut [u64]) -> Result<(), Fault> {
     match c.way {
-        Way::Pack => converting::pack(c.pages, c.bytes.as_slice(), c.numbers.as_mut_slice()),
-        Way::Unpack => converting::unpack(c.pages, c.numbers.as_slice(), c.bytes.as_mut_slice()),
+        Way::Pack => converting::pack(c.pages, bytes, numbers),
+        Way::Unpack => converting::unpack(c.pages, numbers, bytes),
     }
 }
 
@@ -39,21 +40,25 @@ fn words_of(fault: Fault) -> &'static str {
     }
 }
 
-fn play(rt: &impl Print, mut conversion: Conversion) -> io::Result<()> {
-    say_status(rt, convert(&mut conversion))?;
-    spaces::say(rt, conversion.bytes.as_slice())?;
-    print!(rt; "; ")?;
-    spaces::say(rt, conversion.numbers.as_slice())?;
-    println!(rt; "")
+fn play(rt: &impl Print, c: Conversion, read: &Space, numbers: &mut Space) -> io::Result<()> {
+    let mut places = [0u8; ROOM];
+    let bytes = spaces::narrow(read.values(), &mut places);
+    say_status(rt, convert(c, bytes, numbers.values_mut()))?;
+    spaces::say(rt, bytes)?;
+    rt.write_all(b"; ")?;
+    spaces::say(rt, numbers.values())?;
+    rt.write_all(b"\n")
 }
 
 fn run(rt: &impl Print, text: &[u8]) -> io::Result<()> {
+    let mut bytes = Space::new();
+    let mut numbers = Space::new();
     let mut text = Signs { left: text };
     while !text.left.is_empty() {
         rt.write_all(text.through(b':'))?;
-        match reading::take_conversion(&mut text) {
-            Some(conversion) => play(rt, conversion)?,
-            None => println!(rt; ": no conversion")?,
+        match reading::take_conversion(&mut text, &mut bytes, &mut numbers) {
+            Some(conversion) => play(rt, conversion, &bytes, &mut numbers)?,
+            None => rt.write_all(b": no conversion\n")?,
         }
     }
     Ok(())

@@ -1,7 +1,6 @@
 // What a line asks for, behind its name.
 ghost use Rattle.std.specs.Prelude.{◌≤◌, length};
 
-use crate::spaces;
 use crate::spaces::Space;
 use signs::Signs;
 
@@ -12,20 +11,19 @@ pub(crate) enum Way {
     Unpack,
 }
 
-// A conversion of so many pages, and its two spaces.
-#[derive(Drop)]
+// A conversion of so many pages; its two spaces are lent beside it.
+#[derive(Clone, Copy)]
 pub(crate) struct Conversion {
     pub(crate) way: Way,
     pub(crate) pages: u64,
-    pub(crate) bytes: Space<u8>,
-    pub(crate) numbers: Space<u64>,
 }
 
-// The values up to a sign that is no comma, each put so many times as stands before its star; none, where there is no room for them.
-fn take_space(text: &mut Signs) -> Option<Space<u64>>
+// Puts the values up to a sign that is no comma into the space, each so many times as stands before its star. It answers whether there
+// was room for them.
+fn take_space(text: &mut Signs, space: &mut Space) -> bool
     ensures { length text.new.left.now ≤ length text.old.left.now }
 {
-    let mut space = Space::new();
+    space.clear();
     let mut fits = true;
     let mut times = 1;
     while !text.left.is_empty() {
@@ -34,17 +32,21 @@ fn take_space(text: &mut Signs) -> Option<Space<u64>>
             times = value;
             continue;
         }
-        fits = spaces::put(&mut space, times, value) && fits;
+        fits = space.put(times, value) && fits;
         times = 1;
         if end != Some(b',') {
             break;
         }
     }
-    if fits { Some(space) } else { None }
+    fits
 }
 
 // The conversion; none, where the line is too short, of another kind, or has no room for a space.
-pub(crate) fn take_conversion(text: &mut Signs) -> Option<Conversion>
+pub(crate) fn take_conversion(
+    text: &mut Signs,
+    bytes: &mut Space,
+    numbers: &mut Space,
+) -> Option<Conversion>
     ensures { length text.new.left.now ≤ length text.old.left.now }
 {
     let [_, kind, _, ..] = text.left else {
@@ -53,17 +55,16 @@ pub(crate) fn take_conversion(text: &mut Signs) -> Option<Conversion>
     };
     text.left = &text.left[2..];
     let (pages, _) = text.number();
-    let bytes = take_space(text);
-    let numbers = take_space(text);
+    let bytes_fit = take_space(text, bytes);
+    let numbers_fit = take_space(text, numbers);
     let way = match kind {
         b'p' => Way::Pack,
         b'u' => Way::Unpack,
         _ => return None,
     };
-    Some(Conversion {
-        way,
-        pages,
-        bytes: spaces::narrow(bytes?),
-        numbers: numbers?,
-    })
+    if bytes_fit && numbers_fit {
+        Some(Conversion { way, pages })
+    } else {
+        None
+    }
 }

@@ -1,40 +1,68 @@
 // The two spaces of a line: read, lent to the conversion, and written out again.
-use arrayvec::ArrayVec;
 use std::io;
 
 // Room for a page more than there may be, and for some places behind it.
 pub(crate) const ROOM: usize = 4352;
 
-pub(crate) type Space<T> = ArrayVec<T, ROOM>;
-
-// Puts a value so many times behind the others. It answers whether there was room.
-pub(crate) fn put(space: &mut Space<u64>, times: u64, value: u64) -> bool {
-    for _ in 0..times {
-        if space.try_push(value).is_err() {
-            return false;
-        }
-    }
-    true
+// Values one behind the other, and how many they are: both spaces are there once, and lent for each line.
+#[derive(Drop)]
+pub(crate) struct Space {
+    places: [u64; ROOM],
+    count: usize,
 }
 
-// The bytes that were read as numbers.
-pub(crate) fn narrow(read: Space<u64>) -> Space<u8> {
-    let mut bytes = Space::new();
-    for value in read.as_slice() {
-        let _ = bytes.try_push((*value % 256) as u8);
+impl Space {
+    // A space without values.
+    pub(crate) fn new() -> Space {
+        Space {
+            places: [0; ROOM],
+            count: 0,
+        }
     }
-    bytes
+
+    // Takes all values away.
+    pub(crate) fn clear(&mut self) {
+        self.count = 0;
+    }
+
+    // Puts a value so many times behind the others. It answers whether there was room.
+    pub(crate) fn put(&mut self, times: u64, value: u64) -> bool {
+        for _ in 0..times {
+            if ROOM <= self.count {
+                return false;
+            }
+            self.places[self.count] = value;
+            self.count += 1;
+        }
+        true
+    }
+
+    pub(crate) fn values(&self) -> &[u64] {
+        &self.places[..self.count.min(ROOM)]
+    }
+
+    pub(crate) fn values_mut(&mut self) -> &mut [u64] {
+        &mut self.places[..self.count.min(ROOM)]
+    }
+}
+
+// The bytes that were read as numbers, in the first places of their own space.
+pub(crate) fn narrow<'a>(read: &[u64], places: &'a mut [u8; ROOM]) -> &'a mut [u8] {
+    for (byte, value) in places.iter_mut().zip(read) {
+        *byte = (*value % 256) as u8;
+    }
+    &mut places[..read.len().min(ROOM)]
 }
 
 // Writes the values, a row of equal ones at once.
 pub(crate) fn say<T: Copy + Into<u64> + PartialEq>(rt: &impl Print, space: &[T]) -> io::Result<()> {
     if space.is_empty() {
-        print!(rt; "0*0")?;
+        rt.write_all(b"0*0")?;
     }
     for (i, row) in space.chunk_by(|a, b| a == b).enumerate() {
         if let [first, ..] = row {
             if 0 < i {
-                print!(rt; ",")?;
+                rt.write_all(b",")?;
             }
             if 1 < row.len() {
                 print!(rt; "{:x}*", row.len())?;
