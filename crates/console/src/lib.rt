@@ -2,10 +2,13 @@
 // output at all, where only what the run leaves is asked for.
 #![tactic(auto)]
 
+mod quiet;
+
 ghost use Rattle.std.specs.Prelude.{◌≡◌, true, IfSome};
 ghost use Rattle.inputs.specs.Monitor.{Ran, Left};
 
 use frames::Machine;
+pub use quiet::{Remains, left};
 
 // Writes so many answers, if it is loud: whether they could be written.
 fn pass_on(rt: &impl Print, loud: bool, out: &[u8], n: usize) -> bool {

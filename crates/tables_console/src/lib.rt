@@ -28,8 +28,8 @@ pub fn make(rt: &(impl Input + Print), numbers: &mut [u64], world: u64) -> Resul
     ensures made { IfOk result (λ count. Makes world numbers.old (Some count) numbers.new) }
     ensures not_made { IsErrOf result Fault.NoRoom → Makes world numbers.old None numbers.new }
 {
-    let machine = console::run(rt, false).ok_or(Fault::Unread)?;
-    building::build(numbers, &machine.lists, world).ok_or(Fault::NoRoom)
+    let remains = console::left(rt).ok_or(Fault::Unread)?;
+    building::build(numbers, &remains.lists, world).ok_or(Fault::NoRoom)
 }
 
 // Writes the bytes of so many tables: whether they could be written.

@@ -85,12 +85,12 @@ fn judge(
     n: usize,
     world: u64,
 ) -> io::Result<()> {
-    let Some(machine) = console::run(rt, false) else {
+    let Some(remains) = console::left(rt) else {
         return say(rt, "vet: the run could not be read to its end\n");
     };
     let mut numbers = [0u64; table_files::MOST];
     table_files::load(&mut numbers, bytes);
-    vet_first(rt, &numbers, n, &machine.lists, world)
+    vet_first(rt, &numbers, n, &remains.lists, world)
 }
 
 // A file is judged if it is a whole number of numbers, and not too many of them.
